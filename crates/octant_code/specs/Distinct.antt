@@ -1,0 +1,20 @@
+-- What testing a list of points answers.
+use Rattle.std.specs.Prelude.{ℕ, ◌<◌, ◌≤◌, ◌≡◌, List, length, take}
+use Rattle.octant_code.specs.Space.{Site}
+use Rattle.octant_code.specs.Points.{site_at, AreApart}
+use Rattle.octant_code.specs.declared.points.Distinct.{Distinct}
+use Rattle.octant_code.specs.declared.points.Distinct.TheVariants.{Yes, TooMany, Same}
+
+-- the point at `later` stands at the lower position `first` too, and no two positions before `later` have one point:
+-- so `later` is the least such position, and `first` the only lower one of its point
+pub record AreFirstSame (sites : List Site) (first later : ℕ) : Type 0 where
+  pub order : first < later
+  pub within : later < length sites
+  pub same : site_at sites first ≡ site_at sites later
+  pub before : AreApart (take later sites)
+
+-- the answer of a test is right
+abbrev pub IsTested : List Site → Distinct → Type 0
+IsTested sites Yes = (length sites ≤ 65536) × AreApart sites
+IsTested sites TooMany = 65536 < length sites
+IsTested sites (Same first later) = (length sites ≤ 65536) × AreFirstSame sites first later

@@ -1,0 +1,4 @@
+pub mod Space
+pub mod Points
+pub mod Distinct
+pub mod Decimal

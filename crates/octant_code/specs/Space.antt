@@ -1,0 +1,34 @@
+-- Points of the cube of side 2 ^ 21, the octants that they lie in, and the keys of cubes.
+use Rattle.std.specs.Prelude.{ℕ, ◌+◌, ◌-◌, ◌*◌, ◌/◌, ◌%◌, ◌^◌, ◌<◌, ◌≤◌, ◌≡◌, zero, suc}
+
+-- a point by its coordinates
+pub record Site : Type 0 where
+  pub x : ℕ
+  pub y : ℕ
+  pub z : ℕ
+
+abbrev pub origin : Site
+origin = record { x = 0; y = 0; z = 0 }
+
+-- each coordinate is one of the cube's
+pub record IsInCube (s : Site) : Type 0 where
+  pub x_fits : s.x < 2 ^ 21
+  pub y_fits : s.y < 2 ^ 21
+  pub z_fits : s.z < 2 ^ 21
+
+-- the bit of a coordinate that decides at a level: the highest of its 21 bits at level 0
+abbrev pub bit_at : ℕ → ℕ → ℕ
+bit_at v level = v / 2 ^ (20 - level) % 2
+
+-- the number of the octant that holds the point at a level
+unfoldable pub octant_of : Site → ℕ → ℕ
+octant_of s level = 4 * bit_at s.x level + 2 * bit_at s.y level + bit_at s.z level
+
+-- the key of the cube of a level that holds the point: the whole cube's is 1, and a child's is 8 times its parent's and the octant
+unfoldable pub key_of : Site → ℕ → ℕ
+key_of s zero = 1
+key_of s (suc level) = 8 * key_of s level + octant_of s level
+
+-- the point lies in the cube of the key
+abbrev pub IsUnder : ℕ → Site → Type 0
+IsUnder key s = (level : ℕ) × (level ≤ 21) × (key ≡ key_of s level)
