@@ -1,0 +1,4 @@
+pub mod Keys
+pub mod InCube
+mod DecimalFacts
+mod SeenPoints

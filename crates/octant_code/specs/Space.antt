@@ -1,5 +1,5 @@
 -- Points of the cube of side 2 ^ 21, the octants that they lie in, and the keys of cubes.
-use Rattle.std.specs.Prelude.{ℕ, ◌+◌, ◌-◌, ◌*◌, ◌/◌, ◌%◌, ◌^◌, ◌<◌, ◌≤◌, ◌≡◌, zero, suc}
+use Rattle.std.specs.Prelude.{ℕ, ◌+◌, ◌-◌, ◌*◌, ◌/◌, ◌%◌, ◌^◌, ◌<◌, ◌≤◌, ◌≡◌, ◌==◌, ◌&&◌, Bool, zero, suc}
 
 -- a point by its coordinates
 pub record Site : Type 0 where
@@ -9,6 +9,10 @@ pub record Site : Type 0 where
 
 abbrev pub origin : Site
 origin = record { x = 0; y = 0; z = 0 }
+
+-- whether two sites have the same coordinates
+abbrev pub same_coordinates : Site → Site → Bool
+same_coordinates s t = (s.x == t.x) && ((s.y == t.y) && (s.z == t.z))
 
 -- each coordinate is one of the cube's
 pub record IsInCube (s : Site) : Type 0 where

@@ -1,7 +1,10 @@
 //! Decimal numbers.
 
-ghost use Rattle.std.specs.Prelude.{◌≡◌};
-ghost use Rattle.octant_code.specs.Decimal.{decimal_read};
+ghost use Rattle.std.specs.Prelude.{◌≡◌, ◌≤◌, ◌^◌, length, min, true};
+ghost use Rattle.std.specs.Char.{is_ascii_digit};
+ghost use Rattle.std.specs.List.{list_all};
+ghost use Rattle.std.specs.Str.Parse.{digits_value};
+ghost use Rattle.octant_code.specs.Decimal.{are_digits, decimal_read};
 
 use thiserror::Error;
 
@@ -16,22 +19,69 @@ pub enum NumberFault {
     TooLarge,
 }
 
-/// Reads the number of at most `max` that the bytes write in decimal, with any number of leading
-/// zeros. All bytes are looked at, so that one that is no digit comes before a number too large.
+/// How many digits every 64-bit number has room for.
+const SHORT: usize = 19;
+
+/// More than any 64-bit number.
+const CAP: u128 = 1 << 64;
+
+/// Whether the bytes are digits, and at least one.
+fn are_digits(bytes: &[u8]) -> bool
+    ensures { result ≡ are_digits bytes.now }
+{
+    for byte in bytes {
+        if !byte.is_ascii_digit() {
+            return false;
+        }
+    }
+    !bytes.is_empty()
+}
+
+/// The number of at most 19 digits.
+fn short_value(bytes: &[u8]) -> u64
+    requires short { length bytes.now ≤ 19 }
+    requires digits { list_all is_ascii_digit bytes.now ≡ true }
+    ensures { result ≡ digits_value 10 bytes.now }
+{
+    let mut value: u64 = 0;
+    for byte in bytes {
+        value = value * 10 + u64::from(*byte - b'0');
+    }
+    value
+}
+
+/// The number of any number of digits, or 2^64 where it is more.
+fn capped_value(bytes: &[u8]) -> u128
+    requires { list_all is_ascii_digit bytes.now ≡ true }
+    ensures { result ≡ min (digits_value 10 bytes.now) (2 ^ 64) }
+{
+    let mut value: u128 = 0;
+    for byte in bytes {
+        value = CAP.min(value * 10 + u128::from(*byte - b'0'));
+    }
+    value
+}
+
+/// Reads the number of at most `max` that the bytes write in decimal, with any number of digits and
+/// of leading zeros. Bytes that are no digits are found before a number that is too large.
 pub fn read_decimal(bytes: &[u8], max: u64) -> Result<u64, NumberFault>
     ensures { result ≡ decimal_read bytes.now max }
 {
-    if bytes.is_empty() || !bytes.iter().all(|byte| byte.is_ascii_digit()) {
+    if !are_digits(bytes) {
         return Err(NumberFault::NotDigits);
     }
-    let mut value: u64 = 0;
-    for byte in bytes {
-        let digit = u64::from(*byte - b'0');
-        let next = value.checked_mul(10).and_then(|tens| tens.checked_add(digit));
-        match next {
-            Some(next) if next <= max => value = next,
-            _ => return Err(NumberFault::TooLarge),
-        }
+    if bytes.len() <= SHORT {
+        let value = short_value(bytes);
+        return if value > max {
+            Err(NumberFault::TooLarge)
+        } else {
+            Ok(value)
+        };
     }
-    Ok(value)
+    let value = capped_value(bytes);
+    if value > u128::from(max) {
+        Err(NumberFault::TooLarge)
+    } else {
+        Ok(value as u64)
+    }
 }

@@ -59,8 +59,9 @@ impl Points {
             if let Some(first) = seen.get(p) {
                 return Ok(Distinct::Same(*first, i as u32));
             }
-            if seen.insert(*p, i as u32).is_err() {
-                return Err(OutOfMemory);
+            match seen.insert(*p, i as u32) {
+                Ok(_) => {}
+                Err(_) => return Err(OutOfMemory),
             }
         }
         Ok(Distinct::Yes)
