@@ -1,0 +1,3 @@
+pub mod TookFacts
+pub mod TextFacts
+mod MemorySourceFacts

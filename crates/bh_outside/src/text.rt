@@ -1,0 +1,106 @@
+//! The piece in which the parts of a text wait for a sink.
+
+ghost use Rattle.std.specs.Prelude.{◌≡◌, ◌+◌, ◌≤◌, [], ◌++◌, length};
+ghost use Rattle.bh_outside.specs.Outside.{HasCause, Writes};
+ghost use Rattle.bh_outside.specs.Text.{Puts};
+
+use crate::{Failed, Sink, write_all};
+use std::marker::Model;
+
+/// How many bytes can wait.
+const PIECE: usize = 65_536;
+
+/// Bytes of a text that wait for a sink: at most 65,536. Contracts see it as the list of these bytes.
+///
+/// A text of many small parts is put part by part, and then finished. The sink is called once for
+/// each full piece and once at the end, and no memory is taken.
+#[derive(Drop)]
+pub struct Piece {
+    bytes: [u8; 65536],
+    filled: usize,
+}
+
+impl Model for Piece {
+    ghost use Rattle.std.specs.Prelude.{◌≤◌, List, ℕ, take};
+
+    ghost Value = { List ℕ };
+
+    ghost view = { λ p. take p.filled p.bytes };
+
+    ghost invariant = { λ p. p.filled ≤ 65536 };
+}
+
+impl Piece {
+    /// A piece in which nothing waits.
+    pub fn new() -> Piece
+        ensures { result ≡ [] }
+    {
+        Piece {
+            bytes: [0; PIECE],
+            filled: 0,
+        }
+    }
+
+    /// Puts a part of a text behind the bytes that wait. Whatever doesn't fit the piece any more is
+    /// written to the sink, in whole pieces.
+    ///
+    /// # Errors
+    ///
+    /// `Failed` only where the sink's count of faults rose. The sink then took a prefix of the
+    /// bytes that waited and the text.
+    pub fn put<K: Sink>(&mut self, sink: &mut K, text: &[u8]) -> Result<(), Failed>
+        ensures text { Puts (K.written sink.old) (K.written sink.new) self.old self.new text.now result }
+        ensures cause { HasCause (K.faults sink.old) (K.faults sink.new) result }
+    {
+        if text.len() <= PIECE - self.filled {
+            self.keep(text);
+            return Ok(());
+        }
+        self.put_over(sink, text)
+    }
+
+    /// Writes the bytes that wait to the sink. Afterwards nothing waits.
+    ///
+    /// # Errors
+    ///
+    /// `Failed` only where the sink's count of faults rose. The sink then took a prefix of the
+    /// bytes that waited.
+    pub fn finish<K: Sink>(&mut self, sink: &mut K) -> Result<(), Failed>
+        ensures text { Writes (K.written sink.old) (K.written sink.new) self.old result }
+        ensures cause { HasCause (K.faults sink.old) (K.faults sink.new) result }
+        ensures empty { self.new ≡ [] }
+    {
+        let result = write_all(sink, &self.bytes[..self.filled]);
+        self.filled = 0;
+        result
+    }
+
+    // Puts a text that fits behind the bytes that wait.
+    fn keep(&mut self, text: &[u8])
+        requires fits { length self.old + length text.now ≤ 65536 }
+        ensures { self.new ≡ self.old ++ text.now }
+    {
+        let end = self.filled + text.len();
+        self.bytes[self.filled..end].copy_from_slice(text);
+        self.filled = end;
+    }
+
+    // Puts a text, which may be longer than what fits.
+    fn put_over<K: Sink>(&mut self, sink: &mut K, text: &[u8]) -> Result<(), Failed>
+        ensures text { Puts (K.written sink.old) (K.written sink.new) self.old self.new text.now result }
+        ensures cause { HasCause (K.faults sink.old) (K.faults sink.new) result }
+    {
+        let mut rest = text;
+        while rest.len() > PIECE - self.filled {
+            let fits = PIECE - self.filled;
+            self.keep(&rest[..fits]);
+            rest = &rest[fits..];
+            match self.finish(sink) {
+                Ok(()) => {}
+                Err(failed) => return Err(failed),
+            }
+        }
+        self.keep(rest);
+        Ok(())
+    }
+}
