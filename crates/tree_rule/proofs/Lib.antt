@@ -1,0 +1,9 @@
+pub mod Flat
+pub mod Graft
+pub mod Canonical
+pub mod Walk
+pub mod Parts
+pub mod Chain
+pub mod Sound
+pub mod Count
+pub mod Published

@@ -1,0 +1,7 @@
+use Rattle.tree_rule.proofs.Published.{cell_over_body}
+use Rattle.tree_rule.proofs.laws.cell_over_body.Goals as goal
+
+pub returns : goal.returns
+returns c =
+    cell_over_body c.args.points.now c.args.words.now c.args.cells.now c.args.bodies.now c.args.key c.args.place c.args.x c.args.c c.args.new_cells.now c.args.new_bodies.now
+    c.requires.stands c.requires.published c.requires.inside c.requires.named c.requires.part c.requires.apart

@@ -1,0 +1,64 @@
+-- What it is for words to stand for a set of bodies, in flat facts on single words.
+use Rattle.std.specs.Prelude.{ℕ, ◌+◌, ◌*◌, ◌<◌, ◌≤◌, ◌≡◌, ◌≢◌, ◌⊎◌, List}
+use Rattle.octant_code.specs.Space.{Site, key_of, IsUnder}
+use Rattle.octant_code.specs.Points.{site_at}
+use Rattle.bh_model.specs.Bodies.{IsIn}
+use Rattle.tree_rule.specs.Words.{at_of, child_place, key_place, body_word, cell_word}
+
+-- The word of the cube of a key is `w`: the top word, or a child word of a published cell.
+pub data IsWordOf (at : ℕ → ℕ) (top base : ℕ) (IsCell : ℕ → Type 0) (key w : ℕ) : Type 0 where
+  Top : key ≡ base → w ≡ top → IsWordOf at top base IsCell key w
+  Child : (c k : ℕ) → IsCell c → k < 8 → key ≡ 8 * at (key_place c) + k → w ≡ at (child_place c k) → IsWordOf at top base IsCell key w
+
+-- Two bodies of the set lie in the cube of a key, which is of one of the levels that cells have.
+pub record IsShared (site : ℕ → Site) (IsBody : ℕ → Type 0) (key : ℕ) : Type 0 where
+  pub level : ℕ
+  pub shallow : level ≤ 20
+  pub one : ℕ
+  pub other : ℕ
+  pub one_in : IsBody one
+  pub other_in : IsBody other
+  pub differ : one ≢ other
+  pub one_under : key ≡ key_of (site one) level
+  pub other_under : key ≡ key_of (site other) level
+
+-- Body `n` is named by the word of a cube that its point lies in.
+pub record IsNamed (site : ℕ → Site) (at : ℕ → ℕ) (top base : ℕ) (IsCell : ℕ → Type 0) (n : ℕ) : Type 0 where
+  pub level : ℕ
+  pub shallow : level ≤ 21
+  pub named : IsWordOf at top base IsCell (key_of (site n) level) (body_word n)
+
+-- The words below the top word name a set of bodies with a set of cells, below each of which lie two bodies of a set of witnesses.
+pub record StandsAmid (site : ℕ → Site) (at : ℕ → ℕ) (top base : ℕ) (IsCell IsBody IsWitness : ℕ → Type 0) : Type 0 where
+  pub keys_differ : (c d : ℕ) → IsCell c → IsCell d → at (key_place c) ≡ at (key_place d) → c ≡ d
+  pub cell_named : (c : ℕ) → IsCell c → IsWordOf at top base IsCell (at (key_place c)) (cell_word c)
+  pub names_cell : (key c : ℕ) → IsWordOf at top base IsCell key (cell_word c) → IsCell c × (at (key_place c) ≡ key)
+  pub body_named : (n : ℕ) → IsBody n → IsNamed site at top base IsCell n
+  pub names_body : (key n : ℕ) → IsWordOf at top base IsCell key (body_word n) → IsBody n × IsUnder key (site n)
+  pub shared : (c : ℕ) → IsCell c → IsShared site IsWitness (at (key_place c))
+
+-- The words stand for a set of bodies: its bodies are the witnesses.
+abbrev pub StandsFor : (ℕ → Site) → (ℕ → ℕ) → ℕ → ℕ → (ℕ → Type 0) → (ℕ → Type 0) → Type 0
+StandsFor site at top base IsCell IsBody = StandsAmid site at top base IsCell IsBody IsBody
+
+-- The word of the cube of a key stands at a place: the top's, which is one of the first three, or that of a child of a published cell.
+pub data IsPlaceOf (at : ℕ → ℕ) (first base : ℕ) (IsCell : ℕ → Type 0) (key place : ℕ) : Type 0 where
+  TopPlace : key ≡ base → place ≡ first → first < 3 → IsPlaceOf at first base IsCell key place
+  ChildPlace : (c k : ℕ) → IsCell c → k < 8 → key ≡ 8 * at (key_place c) + k → place ≡ child_place c k → IsPlaceOf at first base IsCell key place
+
+-- what is in one set or another
+abbrev pub Either : (ℕ → Type 0) → (ℕ → Type 0) → ℕ → Type 0
+Either P Q n = P n ⊎ Q n
+
+-- The words changed at one place, to the value `w`.
+pub record ChangedAt (at at' : ℕ → ℕ) (place w : ℕ) : Type 0 where
+  pub now : at' place ≡ w
+  pub others : (i : ℕ) → i ≢ place → at' i ≡ at i
+
+-- the published words of a list stand for a list of bodies, with a list of cells
+abbrev pub WordsStandFor : List Site → List ℕ → List ℕ → List ℕ → Type 0
+WordsStandFor sites words cells bodies = StandsFor (site_at sites) (at_of words) (at_of words 0) 1 (IsIn cells) (IsIn bodies)
+
+-- the cells below a word that is not published, at a place and with the word there, stand for a list of bodies of the cube of a key
+abbrev pub PartStandsFor : List Site → List ℕ → ℕ → ℕ → List ℕ → List ℕ → Type 0
+PartStandsFor sites words top key cells bodies = StandsFor (site_at sites) (at_of words) top key (IsIn cells) (IsIn bodies)
