@@ -1,0 +1,3 @@
+pub mod BodyFacts
+pub mod RecordFacts
+pub mod SceneFacts

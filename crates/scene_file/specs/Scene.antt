@@ -1,0 +1,97 @@
+-- The scene of a file's bytes, and its first fault.
+use Rattle.std.specs.Prelude.{◌≡◌, ◌+◌, ◌^◌, ◌==◌, ◌&&◌, ℕ, Bool, List, [], ◌∷◌, ◌++◌, length, nat_le, nat_lt, if◌then◌else◌, unwrap_or, codes, ⊤, Option, Some, None, Result, Ok, Err}
+use Rattle.std.specs.Str.{bytes_eq}
+use Rattle.csv.specs.Reading.{default_config, records, strip_bom}
+use Rattle.csv.specs.Records.{field_at}
+use Rattle.octant_code.specs.Decimal.{decimal_read}
+use Rattle.octant_code.specs.declared.decimal.NumberFault.{NumberFault}
+use Rattle.scene_file.specs.Bodies.{number_at, total_mass}
+use Rattle.scene_file.specs.declared.bodies.Body.{Body}
+use Rattle.scene_file.specs.declared.scene.Scene.{Scene}
+use Rattle.scene_file.specs.declared.fault.SceneFault.{SceneFault}
+use Rattle.scene_file.specs.declared.fault.SceneFault.TheVariants as fault
+
+-- the records of a scene's bytes: those of `csv`, with no header row and of any lengths, after a byte order mark at the front
+abbrev pub records_of : List ℕ → List (List (List ℕ))
+records_of bytes = records default_config (strip_bom bytes)
+
+-- the bytes of a field, none where the record has no such field
+abbrev pub field_text : List (List ℕ) → ℕ → List ℕ
+field_text fields n = unwrap_or (field_at fields n) []
+
+-- the number of at most max in a field
+abbrev pub field_number : List (List ℕ) → ℕ → ℕ → Result ℕ NumberFault
+field_number fields n max = decimal_read (field_text fields n) max
+
+-- whether a record has five fields, and the first is the word of a body
+abbrev pub is_body : List (List ℕ) → Bool
+is_body fields = (length fields == 5) && bytes_eq (field_text fields 0) (codes "body")
+
+-- the body of a mass and three coordinates: each has to be a number within its range, and a mass at least 1
+abbrev pub body_from : ℕ → Result ℕ NumberFault → Result ℕ NumberFault → Result ℕ NumberFault → Result ℕ NumberFault → Result Body SceneFault
+body_from number (Ok mass) (Ok x) (Ok y) (Ok z) =
+    if nat_lt 0 mass then Ok (record { mass = mass; at = record { x = x; y = y; z = z } }) else Err (fault.BadRecord number)
+body_from number _ _ _ _ = Err (fault.BadRecord number)
+
+-- the body of the record of this number
+abbrev pub body_of : ℕ → List (List ℕ) → Result Body SceneFault
+body_of number fields =
+    if is_body fields
+    then body_from number (field_number fields 1 4294967295) (field_number fields 2 2097151) (field_number fields 3 2097151) (field_number fields 4 2097151)
+    else Err (fault.BadRecord number)
+
+-- the bodies with one more, at a point that none has
+abbrev pub placed : ℕ → List Body → Body → Option ℕ → Result (List Body) SceneFault
+placed number bodies body None = Ok (bodies ++ body ∷ [])
+placed number bodies body (Some earlier) = Err (fault.BadRecord number)
+
+-- the bodies with that of the record of this number: there is place for it, the total mass stays below 2 ^ 40, and no earlier body is at its point
+abbrev pub joined : ℕ → List Body → Body → Result (List Body) SceneFault
+joined number bodies body =
+    if nat_le 65536 (length bodies) then Err (fault.BadRecord number)
+    else if nat_le (2 ^ 40) (total_mass bodies + body.mass) then Err (fault.BadRecord number)
+    else placed number bodies body (number_at bodies body.at)
+
+-- what follows, where there was no fault
+abbrev pub then_with : {A B : Type 0} → (A → Result B SceneFault) → Result A SceneFault → Result B SceneFault
+then_with next (Ok a) = next a
+then_with next (Err f) = Err f
+
+-- the bodies of the records up to the one of this number, from those of the records before it
+abbrev pub with_record : ℕ → List Body → List (List ℕ) → Result (List Body) SceneFault
+with_record number bodies fields = then_with (joined number bodies) (body_of number fields)
+
+-- the bodies of records, the first of which has this number, after the bodies of those before it; or the first fault
+unfoldable pub bodies_after : List (List (List ℕ)) → ℕ → List Body → Result (List Body) SceneFault
+bodies_after [] number bodies = Ok bodies
+bodies_after (fields ∷ rows) number bodies = then_with (bodies_after rows (number + 1)) (with_record number bodies fields)
+
+-- the bodies of a scene's bytes, or the first fault
+abbrev pub scene_of : List ℕ → Result (List Body) SceneFault
+scene_of bytes = if nat_lt 16777216 (length bytes) then Err fault.TooLong else bodies_after (records_of bytes) 1 []
+
+-- the fault that was told is the one that was to be told, or it is want of memory
+abbrev pub IsFaultOf : {A : Type 0} → Result A SceneFault → SceneFault → Type 0
+IsFaultOf wanted fault.TooLong = wanted ≡ Err fault.TooLong
+IsFaultOf wanted (fault.BadRecord number) = wanted ≡ Err (fault.BadRecord number)
+IsFaultOf wanted fault.OutOfMemory = ⊤
+
+-- a step of the reading leaves the wanted bodies, or tells the wanted fault
+abbrev pub Adds : List Body → List Body → Result (List Body) SceneFault → Result (Unit {0}) SceneFault → Type 0
+Adds old new wanted (Ok done) = wanted ≡ Ok new
+Adds old new wanted (Err f) = IsFaultOf wanted f
+
+-- a body was put behind the others, or memory ran out
+abbrev pub Keeps : List Body → List Body → Body → Result (Unit {0}) SceneFault → Type 0
+Keeps old new body (Ok done) = new ≡ old ++ body ∷ []
+Keeps old new body (Err f) = f ≡ fault.OutOfMemory
+
+-- what is answered are the wanted bodies, or the wanted fault
+abbrev pub Gives : Result (List Body) SceneFault → Result (List Body) SceneFault → Type 0
+Gives (Ok bodies) wanted = wanted ≡ Ok bodies
+Gives (Err f) wanted = IsFaultOf wanted f
+
+-- what is answered is the scene of the bytes, or its first fault
+abbrev pub Reads : Result Scene SceneFault → Result (List Body) SceneFault → Type 0
+Reads (Ok scene) wanted = wanted ≡ Ok scene.bodies
+Reads (Err f) wanted = IsFaultOf wanted f

@@ -1,0 +1,77 @@
+//! Bodies, and lists of them.
+
+use octant_code::{OutOfMemory, Point, Points};
+use std::alloc::Global;
+use std::marker::Model;
+
+/// A mass at a point of the cube.
+#[derive(Clone, Copy, Debug, PartialEq, Eq)]
+pub struct Body {
+    /// The mass, a whole number from 1.
+    pub mass: u32,
+    /// Where the body is.
+    pub at: Point,
+}
+
+/// At most 65,536 bodies with masses of at least 1, whose total is below 2^40, at distinct points.
+/// Contracts see them as a list; a body's number is its place in it, from 0.
+#[derive(Debug, Drop)]
+pub struct Bodies {
+    list: Vec<Body>,
+}
+
+impl Model for Bodies {
+    ghost use Rattle.std.specs.Prelude.{List};
+    ghost use Rattle.scene_file.specs.declared.bodies.Body.{Body};
+    ghost use Rattle.scene_file.specs.Bodies.{AreBodies};
+
+    ghost Value = { List Body };
+
+    ghost view = { λ b. b.list.items };
+
+    ghost invariant = { λ b. AreBodies b.list.items };
+}
+
+impl Bodies {
+    ghost use Rattle.std.specs.Prelude.{◌≡◌, ◌<◌, IfOk, length};
+    ghost use Rattle.scene_file.specs.Bodies.{AreBodies, body_at, sites_of};
+
+    // The bodies of a list that keeps the rule.
+    pub(crate) fn of(list: Vec<Body>) -> Bodies
+        requires { AreBodies list.items }
+        ensures { result ≡ list.items }
+    {
+        Bodies { list }
+    }
+
+    /// How many bodies there are.
+    pub fn len(&self) -> u32
+        ensures value { result ≡ length self.now }
+        ensures rule { AreBodies self.now }
+    {
+        self.list.len() as u32
+    }
+
+    /// The body of a number.
+    pub fn get(&self, n: u32) -> Body
+        requires { n < length self.now }
+        ensures { result ≡ body_at self.now n }
+    {
+        self.list[n as usize]
+    }
+
+    /// The bodies' points, in the order of the bodies' numbers.
+    pub fn points(&self, alloc: Global) -> Result<Points, OutOfMemory>
+        ensures { IfOk result (λ points. points ≡ sites_of self.now) }
+    {
+        let Ok(mut list) = Vec::with_capacity(alloc, self.list.len()) else {
+            return Err(OutOfMemory);
+        };
+        for body in &self.list {
+            if list.push(body.at).is_err() {
+                return Err(OutOfMemory);
+            }
+        }
+        Ok(Points::of(list))
+    }
+}

@@ -1,0 +1,89 @@
+//! The body of one record.
+
+ghost use Rattle.std.specs.Prelude.{◌≡◌, ◌≤◌, IfOk};
+ghost use Rattle.csv.specs.Records.{fields_of};
+ghost use Rattle.scene_file.specs.Scene.{Adds, body_from, body_of, field_number, is_body, with_record};
+
+use crate::bodies::Body;
+use crate::fault::SceneFault;
+use crate::gathering::Gathering;
+use csv::ByteRecord;
+use octant_code::{NumberFault, Point, read_decimal};
+
+const MOST_MASS: u64 = 4_294_967_295;
+
+const MOST_COORDINATE: u64 = 2_097_151;
+
+// The number of at most `max` in a field. A field that the record doesn't have reads as an empty one.
+fn field_number(row: &ByteRecord, n: usize, max: u64) -> Result<u64, NumberFault>
+    ensures value { result ≡ field_number (fields_of row.now) n max }
+    ensures range { IfOk result (λ v. v ≤ max) }
+{
+    read_decimal(row.get(n).unwrap_or(b""), max)
+}
+
+// Whether a record is one of a body, by the number of its fields and its first field.
+fn is_body(row: &ByteRecord) -> bool
+    ensures { result ≡ is_body (fields_of row.now) }
+{
+    row.len() == 5 && row.get(0).unwrap_or(b"") == b"body".as_slice()
+}
+
+// The body that a record's numbers give.
+fn body_from(
+    number: u32,
+    mass: Result<u64, NumberFault>,
+    x: Result<u64, NumberFault>,
+    y: Result<u64, NumberFault>,
+    z: Result<u64, NumberFault>,
+) -> Result<Body, SceneFault>
+    requires mass { IfOk mass (λ n. n ≤ 4294967295) }
+    requires x { IfOk x (λ n. n ≤ 2097151) }
+    requires y { IfOk y (λ n. n ≤ 2097151) }
+    requires z { IfOk z (λ n. n ≤ 2097151) }
+    ensures { result ≡ body_from number mass x y z }
+{
+    let (Ok(mass), Ok(x), Ok(y), Ok(z)) = (mass, x, y, z) else {
+        return Err(SceneFault::BadRecord(number));
+    };
+    if mass == 0 {
+        return Err(SceneFault::BadRecord(number));
+    }
+    let at = Point {
+        x: x as u32,
+        y: y as u32,
+        z: z as u32,
+    };
+    Ok(Body {
+        mass: mass as u32,
+        at,
+    })
+}
+
+// The body of a record, whose number is told.
+fn read_body(number: u32, row: &ByteRecord) -> Result<Body, SceneFault>
+    ensures { result ≡ body_of number (fields_of row.now) }
+{
+    if !is_body(row) {
+        return Err(SceneFault::BadRecord(number));
+    }
+    let mass = field_number(row, 1, MOST_MASS);
+    let x = field_number(row, 2, MOST_COORDINATE);
+    let y = field_number(row, 3, MOST_COORDINATE);
+    let z = field_number(row, 4, MOST_COORDINATE);
+    body_from(number, mass, x, y, z)
+}
+
+/// Adds the body of a record, whose number is told, to those of the records before it.
+pub fn add_record(
+    gathering: &mut Gathering,
+    number: u32,
+    row: &ByteRecord,
+) -> Result<(), SceneFault>
+    ensures { Adds gathering.old gathering.new (with_record number gathering.old (fields_of row.now)) result }
+{
+    match read_body(number, row) {
+        Ok(body) => gathering.join(number, &body),
+        Err(fault) => Err(fault),
+    }
+}
