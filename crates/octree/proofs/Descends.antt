@@ -1,0 +1,50 @@
+-- A step of the way down.
+use Rattle.std.proofs.Common.{ℕ, ◌+◌, ◌-◌, ◌*◌, ◌/◌, ◌%◌, ◌<◌, ◌≤◌, ◌≡◌, ◌≢◌, zero, suc, refl, sym, ◌∙◌, ap, subst, arith, List, length, add-one, slice_index_or}
+use Rattle.std.proofs.lemmas.List.{get_or_read}
+use Rattle.octant_code.specs.Space.{Site, octant_of, key_of}
+use Rattle.octant_code.specs.Points.{site_at}
+use Rattle.octant_code.proofs.Keys.{key-suc, octant-small, same_level}
+use Rattle.octree.specs.Stored.{StandsWell}
+use Rattle.tree_rule.proofs.Graft.{word_at_place}
+use Rattle.tree_rule.specs.Flat.{ChildPlace, IsPlaceOf, IsShared, IsWordOf, StandsFor, TopPlace}
+use Rattle.tree_rule.specs.Words.{HasBody, HasCell, at_of, body_word, cell_word, child_place, key_place}
+
+-- what a word that names a cell tells on the way down
+pub record StepsDown (words : List ℕ) (base : ℕ) (s : Site) (place level c : ℕ) : Type 0 where
+  pub has_cell : HasCell words c
+  pub shallow : level ≤ 20
+  pub there : IsPlaceOf (at_of words) 0 base (HasCell words) (key_of s (level + 1)) (3 + 10 * c + octant_of s level)
+
+pub steps_down : (sites : List Site) (words : List ℕ) (base : ℕ) (s : Site) (place level w : ℕ) → StandsWell sites words base
+    → IsPlaceOf (at_of words) 0 base (HasCell words) (key_of s level) place → w ≡ at_of words place → w ≢ 0 → w % 2 ≡ 0
+    → StepsDown words base s place level (w / 2 - 1)
+steps_down sites words base s place level w h there is some even =
+    let c : ℕ = w / 2 - 1 in
+    let shape : w ≡ cell_word c = omega arith in
+    let is_cell : at_of words place ≡ cell_word c = ◌∙◌ {a = at_of words place} (sym is) shape in
+    let x : IsWordOf (at_of words) (at_of words 0) base (HasCell words) (key_of s level) (cell_word c) =
+    subst (λ (y : ℕ). IsWordOf (at_of words) (at_of words 0) base (HasCell words) (key_of s level) y) is_cell (word_at_place (at_of words) 0 base (HasCell words) (key_of s level) place there) in
+    let f = h.names_cell (key_of s level) c x in
+    let t = h.shared c f.0 in
+    let l : t.level ≡ level = same_level (site_at sites t.one) s t.level level (sym t.one_under ∙ f.1) in
+    let next_key : key_of s (level + 1) ≡ 8 * at_of words (key_place c) + octant_of s level =
+    ap (key_of s) (add-one level) ∙ key-suc s level ∙ ap (λ y. 8 * y + octant_of s level) (sym f.1) in
+    record {
+      has_cell = f.0;
+      shallow = omega (arith, t.shallow);
+      there = ChildPlace c (octant_of s level) f.0 (octant-small s level)
+          next_key refl;
+    }
+
+-- where the way down has come to
+pub record IsOnTheWay (sites : List Site) (words : List ℕ) (n from place level : ℕ) : Type 0 where
+  pub there : IsPlaceOf (at_of words) 0 (key_of (site_at sites n) from) (HasCell words) (key_of (site_at sites n) level) place
+  pub shallow : level ≤ 21
+  pub below : from ≤ level
+  pub inside : place < length words
+
+pub stepped : (sites : List Site) (words : List ℕ) (n from place level w : ℕ) → StandsWell sites words (key_of (site_at sites n) from)
+    → IsOnTheWay sites words n from place level → w ≡ slice_index_or words place w → w ≢ 0 → w % 2 ≢ 1
+    → StepsDown words (key_of (site_at sites n) from) (site_at sites n) place level (w / 2 - 1)
+stepped sites words n from place level w h way is some even =
+    steps_down sites words (key_of (site_at sites n) from) (site_at sites n) place level w h way.there (get_or_read words place w way.inside is 0) some (omega arith)

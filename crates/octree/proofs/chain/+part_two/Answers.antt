@@ -1,0 +1,89 @@
+use Rattle.std.proofs.Common.{rules, arith, ◌≡◌, ◌≢◌, ◌+◌, ◌-◌, ◌*◌, ◌<◌, ◌≤◌, ℕ, length, vec_len, slice_set, ap, sym, subst, ◌∙◌, add-one, refl, suc}
+use Rattle.octant_code.specs.Space.{IsInCube, Site, key_of, octant_of}
+use Rattle.octant_code.specs.Points.{site_at}
+use Rattle.octant_code.proofs.Keys.{key-next-fits, key-suc}
+use Rattle.octree.proofs.Chains.{forked, key_deeper, level_deeper, linked}
+use Rattle.octree.proofs.Words.{at_set_other, at_set_same, set_length}
+use Rattle.octree.specs.Chain.{IsOneOf, IsTaken}
+use Rattle.octree.specs.Stored.{IsBlankFrom}
+use Rattle.tree_rule.specs.Flat.{StandsFor}
+use Rattle.tree_rule.specs.Words.{at_of, body_word, cell_word, child_place, key_place}
+use Rattle.octree.proofs.chain.+part_two.Goals as goal
+
+pub overflow_mul-inner : goal.overflow_mul-inner
+overflow_mul-inner t c = omega (arith, key-next-fits (site_at c.args.points.now c.args.n) c.args.cube.level (omega arith), c.requires.key)
+
+pub overflow_add-inner : goal.overflow_add-inner
+overflow_add-inner t c = omega (arith, key-next-fits (site_at c.args.points.now c.args.n) c.args.cube.level (omega arith), c.requires.key, c.octant-b.ensures.small, c.from.ensures)
+
+pub part_two-next-requires : goal.part_two-next-requires
+part_two-next-requires t c =
+    let key = c.args.cube.key in
+    let ws = c.args.words.now.items in
+    let sites = c.args.points.now in
+    let ox : c.octant-a.result ≡ octant_of (site_at sites c.args.x) c.args.cube.level = c.octant-a.ensures.value ∙ ap (λ s. octant_of s c.args.cube.level) c.at-q.ensures.value in
+    let on : c.octant-b.result ≡ octant_of (site_at sites c.args.n) c.args.cube.level = c.octant-b.ensures.value ∙ ap (λ s. octant_of s c.args.cube.level) c.at-p.ensures.value in
+    let same : octant_of (site_at sites c.args.x) c.args.cube.level ≡ octant_of (site_at sites c.args.n) c.args.cube.level = sym ox ∙ c.if-a-b.true ∙ on in
+    let room = c.requires.room in
+    let inside_x : IsInCube (site_at sites c.args.x) = subst (λ (s : Site). IsInCube s) c.at-q.ensures.value c.at-q.ensures.inside in
+    let inside_n : IsInCube (site_at sites c.args.n) = subst (λ (s : Site). IsInCube s) c.at-p.ensures.value c.at-p.ensures.inside in
+    let deep : c.args.cube.level < 20 =
+    level_deeper sites c.args.x c.args.n c.args.cube.level c.requires.rule inside_x inside_n c.requires.x_in c.requires.n_in c.requires.differ c.requires.shallow c.requires.together same in (
+      omega arith,
+      (
+        omega arith,
+        (
+          omega (arith, c.requires.few),
+          (
+            omega (arith, room, set_length ws (3 + 10 * c.args.used + 8) key),
+            (
+              (λ i l. at_set_other ws (3 + 10 * c.args.used + 8) i key (λ h. omega arith) ∙ c.requires.blank i (omega arith)),
+              (
+                c.requires.rule,
+                (
+                  c.requires.x_in,
+                  (
+                    c.requires.n_in,
+                    (
+                      c.requires.differ,
+                      (
+                        rw add-one (omega (arith, key-suc (site_at sites c.args.n) c.args.cube.level, c.requires.key, on, c.from.ensures)),
+                        rw add-one (key_deeper sites c.args.x c.args.n c.args.cube.level c.requires.together same),
+                      ),
+                    ),
+                  ),
+                ),
+              ),
+            ),
+          ),
+        ),
+      ),
+    )
+
+pub returns-then-a-b-clause-kept : goal.returns-then-a-b-clause-kept
+returns-then-a-b-clause-kept t c = λ i l.
+    at_set_other c.part_two-next.new.words.items (3 + 10 * c.args.used + c.octant-a.result) i (2 * c.from-then-a-b.result + 2) (λ h. omega arith)
+    ∙ c.part_two-next.ensures.kept i (omega arith)
+    ∙ at_set_other c.args.words.now.items (3 + 10 * c.args.used + 8) i c.args.cube.key (λ h. omega arith)
+
+pub returns-then-a-b-clause-stands : goal.returns-then-a-b-clause-stands
+returns-then-a-b-clause-stands t c =
+    let sites = c.args.points.now in
+    let key_is : c.args.cube.key ≡ key_of (site_at sites c.args.n) c.args.cube.level = c.requires.key in
+    let on : c.octant-a.result ≡ octant_of (site_at sites c.args.n) c.args.cube.level =
+    c.if-a-b.true ∙ c.octant-b.ensures.value ∙ ap (λ s. octant_of s c.args.cube.level) c.at-p.ensures.value in
+    let room = c.requires.room in
+    linked (site_at sites) c.args.words.now.items c.part_two-next.new.words.items c.args.used c.part_two-next.result c.octant-a.result c.args.cube.key c.args.cube.level c.args.x c.args.n
+    (2 * c.from-then-a-b.result + 2) c.part_two-next.ensures.len c.part_two-next.ensures.kept c.requires.blank (omega (arith, room, c.requires.shallow)) c.part_two-next.ensures.more
+    c.requires.shallow c.requires.differ c.requires.together key_is on (omega (arith, c.from-then-a-b.ensures)) c.part_two-next.ensures.stands
+
+pub returns-else-a-b-clause-stands : goal.returns-else-a-b-clause-stands
+returns-else-a-b-clause-stands t c =
+    let sites = c.args.points.now in
+    let key_is : c.args.cube.key ≡ key_of (site_at sites c.args.n) c.args.cube.level = c.requires.key in
+    let ox : c.octant-a.result ≡ octant_of (site_at sites c.args.x) c.args.cube.level = c.octant-a.ensures.value ∙ ap (λ s. octant_of s c.args.cube.level) c.at-q.ensures.value in
+    let on : c.octant-b.result ≡ octant_of (site_at sites c.args.n) c.args.cube.level = c.octant-b.ensures.value ∙ ap (λ s. octant_of s c.args.cube.level) c.at-p.ensures.value in
+    let room = c.requires.room in
+    forked (site_at sites) c.args.words.now.items c.args.used c.octant-a.result c.octant-b.result c.args.cube.key c.args.cube.level c.args.x c.args.n
+    (2 * c.from-else-a-b.result + 1) (2 * c.from-else-a-b-2.result + 1) c.requires.blank (omega (arith, room, c.requires.shallow)) c.requires.shallow c.requires.differ c.requires.together
+    key_is ox on c.if-a-b.false (omega (arith, c.from-else-a-b.ensures)) (omega (arith, c.from-else-a-b-2.ensures))

@@ -1,0 +1,15 @@
+use Rattle.std.proofs.Common.{◌≡◌, ℕ, List, subst, sym, ◌↔◌}
+use Rattle.octant_code.specs.Points.{site_at}
+use Rattle.bh_model.specs.Bodies.{IsIn, NoneTwice}
+use Rattle.bh_model.specs.Trees.{octree}
+use Rattle.octree.proofs.Inserts.{tree_is}
+use Rattle.octree.specs.Stored.{IsCanonical, IsStored, Stored, tree_of}
+use Rattle.tree_rule.specs.Words.{HasBody}
+use Rattle.octree.proofs.octree.Octree.canonical_tree.Goals as goal
+
+pub returns : goal.returns
+returns c =
+    let f = c.self.inside in
+    let o : Stored = record { words = f.words.items; base = f.base; level = f.level; used = f.used; held = f.held } in
+    let rule : IsStored c.args.self.now = subst IsStored c.self.view_is c.self.invariant in
+    λ bodies apart same. tree_is c.args.points.now c.args.self.now rule c.requires.canonical c.requires.base bodies apart same

@@ -1,0 +1,14 @@
+use Rattle.std.proofs.Common.{arith, ◌≡◌, ◌<◌, ◌+◌, ◌*◌, ℕ, length, refl, sym, subst}
+use Rattle.octree.proofs.ReadWords.{read_small}
+use Rattle.octree.specs.Stored.{Stored}
+use Rattle.tree_rule.specs.Words.{Below, HasCell, Here, IsReached, at_of}
+use Rattle.octree.proofs.octree.Octree.child.Goals as goal
+
+pub node_of-requires : goal.node_of-requires
+node_of-requires c =
+    let f = c.self.inside in
+    let words = c.args.self.now.words in
+    let has : HasCell f.words.items c.args.c.0 = subst (λ (y : Stored). HasCell y.words c.args.c.0) (sym c.self.view_is) c.requires.reachable in
+    read_small c.args.self.now (record { words = f.words.items; base = f.base; level = f.level; used = f.used; held = f.held }) (3 + 10 * c.args.c.0 + c.args.k) c.index.result.now
+    c.self.view_is c.self.invariant (omega (arith, c.self.invariant.long, c.self.invariant.used_held, c.self.invariant.cells_used c.args.c.0 has))
+    (Below c.args.c.0 c.args.k (at_of words (3 + 10 * c.args.c.0 + c.args.k)) c.requires.reachable c.requires.octant refl) c.index.ensures

@@ -1,0 +1,31 @@
+use Rattle.std.proofs.Common.{◌≡◌, ◌<◌, ℕ, length, arith}
+use Rattle.octant_code.specs.Points.{site_at}
+use Rattle.bh_model.proofs.Lists.{numbers_once}
+use Rattle.bh_model.specs.Bodies.{numbers}
+use Rattle.octree.proofs.Builds.{built_all, built_more, built_roomier, under_whole}
+use Rattle.octree.proofs.octree.Octree.of_points.Goals as goal
+
+pub insert-requires-clause-under : goal.insert-requires-clause-under
+insert-requires-clause-under c =
+    let more = built_roomier c.args.points.now c.loop-n.tree c.reserve.new.self c.loop-n.n c.loop-n.invariant c.reserve.ensures.stays in
+    under_whole (site_at c.args.points.now c.loop-n.n) c.reserve.new.self.base more.base
+
+pub insert-requires-clause-canonical : goal.insert-requires-clause-canonical
+insert-requires-clause-canonical c = (built_roomier c.args.points.now c.loop-n.tree c.reserve.new.self c.loop-n.n c.loop-n.invariant c.reserve.ensures.stays).canonical
+
+pub insert-requires-clause-fresh : goal.insert-requires-clause-fresh
+insert-requires-clause-fresh c =
+    let more = built_roomier c.args.points.now c.loop-n.tree c.reserve.new.self c.loop-n.n c.loop-n.invariant c.reserve.ensures.stays in
+    λ b. let l : c.loop-n.n < c.loop-n.n = (more.bodies c.loop-n.n).0 b in omega (arith, l)
+
+pub loop-n-preserved : goal.loop-n-preserved
+loop-n-preserved c =
+    let sites = c.args.points.now in
+    let more = built_roomier sites c.loop-n.tree c.reserve.new.self c.loop-n.n c.loop-n.invariant c.reserve.ensures.stays in
+    built_more sites c.reserve.new.self c.insert.new.self c.loop-n.n more c.insert.ensures.canonical c.insert.ensures.inserted
+
+pub returns-clause-tree : goal.returns-clause-tree
+returns-clause-tree c =
+    let sites = c.args.points.now in
+    let all : c.loop-n.n ≡ length sites = omega arith in
+    c.canonical_tree.ensures (numbers (length sites)) (numbers_once (length sites)) (built_all sites c.loop-n.tree c.loop-n.n c.loop-n.invariant all)

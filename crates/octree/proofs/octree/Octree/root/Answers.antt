@@ -1,0 +1,11 @@
+use Rattle.std.proofs.Common.{arith, ◌≡◌, ◌<◌, ℕ, length, refl}
+use Rattle.octree.proofs.ReadWords.{read_small}
+use Rattle.octree.specs.Stored.{Stored}
+use Rattle.tree_rule.specs.Words.{Below, Here, IsReached, at_of}
+use Rattle.octree.proofs.octree.Octree.root.Goals as goal
+
+pub node_of-requires : goal.node_of-requires
+node_of-requires c =
+    let f = c.self.inside in
+    read_small c.args.self.now (record { words = f.words.items; base = f.base; level = f.level; used = f.used; held = f.held }) 0 c.index.result.now
+    c.self.view_is c.self.invariant (omega (arith, c.self.invariant.long)) (Here (at_of c.args.self.now.words 0) refl) c.index.ensures

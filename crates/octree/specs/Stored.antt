@@ -1,0 +1,71 @@
+-- An octree as it is stored: its words, the key and the level of its cube, and how many of its cells are used and held.
+use Rattle.std.specs.Prelude.{ℕ, ◌+◌, ◌-◌, ◌*◌, ◌^◌, ◌<◌, ◌≤◌, ◌≡◌, ◌⊎◌, ◌↔◌, List, length}
+use Rattle.octant_code.specs.Space.{Site}
+use Rattle.octant_code.specs.Points.{site_at}
+use Rattle.bh_model.specs.Trees.{Tree}
+use Rattle.tree_rule.specs.Words.{at_of, key_place, tree_from, HasCell, HasBody}
+use Rattle.tree_rule.specs.Flat.{StandsFor}
+use Rattle.tree_rule.specs.Sound.{IsSound, BodiesUnder}
+
+-- an octree by its words, the key and the level of its cube, and how many cells are used and held
+pub record Stored : Type 0 where
+  pub words : List ℕ
+  pub base : ℕ
+  pub level : ℕ
+  pub used : ℕ
+  pub held : ℕ
+
+-- how many cells are spare: held, and not used
+abbrev pub spare_of : Stored → ℕ
+spare_of o = o.held - o.used
+
+-- the word that names the root
+abbrev pub root_word : Stored → ℕ
+root_word o = at_of o.words 0
+
+-- the tree of an octree
+abbrev pub tree_of : Stored → Tree
+tree_of o = tree_from (at_of o.words) 22 (at_of o.words 0)
+
+-- the words stand for the bodies that are read in them, at the sites of a list
+abbrev pub StandsWell : List Site → List ℕ → ℕ → Type 0
+StandsWell sites words base = StandsFor (site_at sites) (at_of words) (at_of words 0) base (HasCell words) (HasBody words)
+
+-- the words past the used cells are 0
+abbrev pub IsBlankFrom : List ℕ → ℕ → Type 0
+IsBlankFrom words used = (i : ℕ) → 3 + 10 * used ≤ i → at_of words i ≡ 0
+
+-- what every octree keeps
+pub record IsStored (o : Stored) : Type 0 where
+  pub few : o.held ≤ 1376256
+  pub long : length o.words ≡ 3 + 10 * o.held
+  pub used_held : o.used ≤ o.held
+  pub shallow : o.level ≤ 21
+  pub base_low : 8 ^ o.level ≤ o.base
+  pub base_high : o.base < 2 * 8 ^ o.level
+  pub blank : IsBlankFrom o.words o.used
+  pub sound : IsSound (at_of o.words) (at_of o.words 0) o.base
+  pub cells_used : (c : ℕ) → HasCell o.words c → c < o.used
+  pub bodies_small : (n : ℕ) → HasBody o.words n → n < 65536
+
+-- the octree is the canonical one of its bodies at the sites of a list: each body's point lies under the key of its word
+pub record IsCanonical (sites : List Site) (o : Stored) : Type 0 where
+  pub under : BodiesUnder (site_at sites) (at_of o.words) (at_of o.words 0) o.base
+  pub bodies_in : (n : ℕ) → HasBody o.words n → n < length sites
+
+-- an octree after an insertion of body `n`: its bodies, and what stays
+pub record IsInserted (n : ℕ) (before after : Stored) : Type 0 where
+  pub bodies : (m : ℕ) → HasBody after.words m ↔ (HasBody before.words m ⊎ (m ≡ n))
+  pub cells_stay : (c : ℕ) → HasCell before.words c → HasCell after.words c
+  pub keys_stay : (c : ℕ) → HasCell before.words c → at_of after.words (key_place c) ≡ at_of before.words (key_place c)
+  pub base_stays : after.base ≡ before.base
+  pub held_stays : after.held ≡ before.held
+  pub used_more : before.used ≤ after.used
+  pub used_few : after.used ≤ before.used + 21
+
+-- an octree after cells were reserved: the words that it had, with others that are 0 behind them, and what stays
+pub record IsRoomier (before after : Stored) : Type 0 where
+  pub words_stay : at_of after.words ≡ at_of before.words
+  pub base_stays : after.base ≡ before.base
+  pub level_stays : after.level ≡ before.level
+  pub used_stays : after.used ≡ before.used

@@ -1,0 +1,44 @@
+//! The way down to a word that names no cell.
+
+ghost use Rattle.std.specs.Prelude.{◌≡◌, ◌+◌, ◌*◌, ◌<◌, ◌≤◌, ℕ, length};
+ghost use Rattle.octant_code.specs.Space.{key_of};
+ghost use Rattle.octant_code.specs.Points.{site_at};
+ghost use Rattle.tree_rule.specs.Words.{at_of, cell_word, HasCell, HasBody};
+ghost use Rattle.tree_rule.specs.Flat.{IsPlaceOf, StandsFor};
+
+use octant_code::{Points, octant};
+
+/// A place among the words, and the level of the cube of the word there.
+#[derive(Clone, Copy, Drop)]
+pub struct Spot {
+    pub place: usize,
+    pub level: u32,
+}
+
+/// The word that names no cell and whose cube holds the point of `n`, below the root word, whose
+/// cube is of the level `from`.
+pub fn find_place(words: &Vec<u64>, from: u32, points: &Points, n: u32) -> Spot
+    requires n_in { n < length points.now }
+    requires shallow { from ≤ 21 }
+    requires stands { StandsFor (site_at points.now) (at_of words.now.items) (at_of words.now.items 0) (key_of (site_at points.now n) from) (HasCell words.now.items) (HasBody words.now.items) }
+    requires first { 3 ≤ length words.now.items }
+    requires room { (c : ℕ) → HasCell words.now.items c → 3 + 10 * (c + 1) ≤ length words.now.items }
+    ensures there { IsPlaceOf (at_of words.now.items) 0 (key_of (site_at points.now n) from) (HasCell words.now.items) (key_of (site_at points.now n) result.level) result.place }
+    ensures no_cell { (c : ℕ) → at_of words.now.items result.place ≡ cell_word c → ⊥ }
+    ensures shallow { result.level ≤ 21 }
+    ensures below { from ≤ result.level }
+    ensures inside { result.place < length words.now.items }
+{
+    let p = points.at(n);
+    let mut place: usize = 0;
+    let mut level = from;
+    'down: loop {
+        let word = words[place];
+        if word == 0 || word % 2 == 1 {
+            return Spot { place, level };
+        }
+        let cell = (word / 2 - 1) as usize;
+        place = 3 + 10 * cell + octant(p, level) as usize;
+        level += 1;
+    }
+}

@@ -1,0 +1,206 @@
+//! The octree of bodies.
+
+use crate::chain::{Cube, part_two};
+use crate::descend::find_place;
+use crate::node::{CellNo, Node, node_of};
+use crate::text::put_word;
+use bh_outside::{Failed, Piece, Sink};
+use octant_code::{OutOfMemory, Points, key_at};
+use std::alloc::Global;
+use std::marker::Model;
+
+/// How many cells an octree may hold: 21 for each of 65,536 bodies.
+const MOST_CELLS: u32 = 1_376_256;
+
+/// How many cells one insertion may use.
+const CELLS_OF_ONE: u32 = 21;
+
+/// How many cells a tree of many points begins with.
+const FIRST_CELLS: u32 = 1024;
+
+/// The octree of the bodies of a cube, kept in words: the word that names the root, two words that
+/// are not used, and for each cell the words of its eight children, its key and a word that is not
+/// used. A word is 0 for nothing, 2n + 1 for body n, and 2c + 2 for cell c (Barnes and Hut,
+/// Nature 324, 1986; the words are this project's own).
+///
+/// Contracts see it as `Stored`: its words, the key and the level of its cube, and how many of its
+/// cells are used and held.
+#[derive(Drop)]
+pub struct Octree {
+    words: Vec<u64>,
+    base: u64,
+    level: u32,
+    used: u32,
+    held: u32,
+}
+
+impl Model for Octree {
+    ghost use Rattle.octree.specs.Stored.{Stored, IsStored};
+
+    ghost Value = { Stored };
+
+    ghost view = { λ a. record { words = a.words.items; base = a.base; level = a.level; used = a.used; held = a.held } };
+
+    ghost invariant = { λ a. IsStored (record { words = a.words.items; base = a.base; level = a.level; used = a.used; held = a.held }) };
+}
+
+impl Octree {
+    ghost use Rattle.std.specs.Prelude.{◌≡◌, ◌+◌, ◌*◌, ◌<◌, ◌≤◌, ◌↔◌, ℕ, List, IfOk, OnOk, OnErr, length};
+    ghost use Rattle.octant_code.specs.Space.{Site, IsUnder};
+    ghost use Rattle.octant_code.specs.Points.{site_at};
+    ghost use Rattle.bh_model.specs.Bodies.{IsIn, NoneTwice, numbers};
+    ghost use Rattle.bh_model.specs.Trees.{octree, text};
+    ghost use Rattle.bh_outside.specs.Outside.{HasCause, Writes};
+    ghost use Rattle.bh_outside.specs.Text.{Puts};
+    ghost use Rattle.tree_rule.specs.Words.{at_of, child_place, HasBody, HasCell};
+    ghost use Rattle.octree.specs.Node.{IsNodeOf};
+    ghost use Rattle.octree.specs.Stored.{IsCanonical, IsInserted, IsRoomier, root_word, spare_of, tree_of};
+
+    /// The empty tree of the whole cube, with spare cells: at most 1,376,256.
+    pub fn empty(alloc: Global, cells: u32) -> Result<Octree, OutOfMemory>
+        requires { cells ≤ 1376256 }
+        ensures base { IfOk result (λ t. t.base ≡ 1) }
+        ensures level { IfOk result (λ t. t.level ≡ 0) }
+        ensures used { IfOk result (λ t. t.used ≡ 0) }
+        ensures held { IfOk result (λ t. t.held ≡ cells) }
+        ensures empty { IfOk result (λ t. root_word t ≡ 0) }
+    {
+        match vec![in alloc; 0u64; 3 + 10 * cells as usize] {
+            Ok(words) => Ok(Octree {
+                words,
+                base: 1,
+                level: 0,
+                used: 0,
+                held: cells,
+            }),
+            Err(_) => Err(OutOfMemory),
+        }
+    }
+
+    /// How many cells are spare.
+    pub fn spare(&self) -> u32
+        ensures { result ≡ spare_of self.now }
+    {
+        self.held - self.used
+    }
+
+    /// The node at the root.
+    pub fn root(&self) -> Node
+        ensures { IsNodeOf (root_word self.now) result }
+    {
+        node_of(self.words[0])
+    }
+
+    /// The node at child `k`, 0 to 7, of a cell that can be reached.
+    pub fn child(&self, c: CellNo, k: u32) -> Node
+        requires reachable { HasCell self.now.words c.0 }
+        requires octant { k < 8 }
+        ensures { IsNodeOf (at_of self.now.words (child_place c.0 k)) result }
+    {
+        node_of(self.words[3 + 10 * c.0 as usize + k as usize])
+    }
+
+    /// Inserts body `n`, which takes at most 21 of the spare cells and no memory.
+    pub fn insert(&mut self, points: &Points, n: u32)
+        requires room { 21 ≤ spare_of self.old }
+        requires n_in { n < length points.now }
+        requires under { IsUnder self.old.base (site_at points.now n) }
+        requires canonical { IsCanonical points.now self.old }
+        requires fresh { HasBody self.old.words n → ⊥ }
+        ensures canonical { IsCanonical points.now self.new }
+        ensures inserted { IsInserted n self.old self.new }
+    {
+        let _rule = points.len();
+        let spot = find_place(&self.words, self.level, points, n);
+        let word = self.words[spot.place];
+        if word == 0 {
+            self.words[spot.place] = 2 * u64::from(n) + 1;
+        } else {
+            // The cube that holds the points of two bodies is not of the last level.
+            let x = (word / 2) as u32;
+            let _other = points.at(x);
+            let cube = Cube {
+                key: key_at(points.at(n), spot.level),
+                level: spot.level,
+            };
+            let next = part_two(&mut self.words, self.used, points, x, n, cube);
+            self.words[spot.place] = 2 * u64::from(self.used) + 2;
+            self.used = next;
+        }
+    }
+
+    /// Makes room for at least `cells` spare cells, and for as many again as are held, so that a tree
+    /// that grows one body at a time takes memory only a few times.
+    pub fn reserve(&mut self, cells: u32) -> Result<(), OutOfMemory>
+        requires { self.old.used + cells ≤ 1376256 }
+        ensures room { OnOk result (cells ≤ spare_of self.new) }
+        ensures stays { IsRoomier self.old self.new }
+    {
+        if cells <= self.held - self.used {
+            return Ok(());
+        }
+        let held = MOST_CELLS.min((self.used + cells).max(2 * self.held));
+        match self.words.resize(3 + 10 * held as usize, 0) {
+            Ok(()) => {
+                self.held = held;
+                Ok(())
+            }
+            Err(_) => Err(OutOfMemory),
+        }
+    }
+
+    /// A tree of the whole cube that is canonical at points is the canonical octree of any list of its
+    /// bodies.
+    pub fn canonical_tree(&self, points: &Points)
+        requires base { self.now.base ≡ 1 }
+        requires canonical { IsCanonical points.now self.now }
+        ensures { (bodies : List ℕ) → NoneTwice bodies → ((m : ℕ) → HasBody self.now.words m ↔ IsIn bodies m) → tree_of self.now ≡ octree (site_at points.now) bodies }
+    {
+        let _read = (self.held, points.len());
+    }
+
+    /// The canonical octree of all points of a list, each body by its point's number, made by
+    /// inserting one body after another.
+    pub fn of_points(alloc: Global, points: &Points) -> Result<Octree, OutOfMemory>
+        ensures canonical { IfOk result (λ t. IsCanonical points.now t) }
+        ensures tree { IfOk result (λ t. tree_of t ≡ octree (site_at points.now) (numbers (length points.now))) }
+    {
+        let count = points.len();
+        let mut tree = Octree::empty(alloc, FIRST_CELLS.min(CELLS_OF_ONE * count))?;
+        for n in 0..count {
+            tree.reserve(CELLS_OF_ONE)?;
+            tree.insert(points, n);
+        }
+        tree.canonical_tree(points);
+        Ok(tree)
+    }
+
+    /// Puts the text of the tree behind the bytes that wait in a piece. It takes no memory.
+    ///
+    /// # Errors
+    ///
+    /// `Failed` only where the sink's count of faults rose.
+    pub fn put_text<K: Sink>(&self, piece: &mut Piece, sink: &mut K) -> Result<(), Failed>
+        ensures text { Puts (K.written sink.old) (K.written sink.new) piece.old piece.new (text (tree_of self.now)) result }
+        ensures cause { HasCause (K.faults sink.old) (K.faults sink.new) result }
+    {
+        put_word(&self.words, self.words[0], 22, piece, sink)
+    }
+
+    /// Writes the text of the tree: `.` for no body, `b` and the number for one, and for a cell the
+    /// texts of its children 0 to 7 in brackets. It takes no memory.
+    ///
+    /// # Errors
+    ///
+    /// `Failed` only where the sink's count of faults rose. A prefix of the text is written then.
+    pub fn write_text<K: Sink>(&self, out: &mut K) -> Result<(), Failed>
+        ensures text { Writes (K.written out.old) (K.written out.new) (text (tree_of self.now)) result }
+        ensures cause { HasCause (K.faults out.old) (K.faults out.new) result }
+    {
+        let mut piece = Piece::new();
+        match self.put_text(&mut piece, out) {
+            Ok(()) => piece.finish(out),
+            Err(failed) => Err(failed),
+        }
+    }
+}
