@@ -1,0 +1,10 @@
+//! Tests that cross crates: runs of the top call over memory, named by what they show, and the calls
+//! that may want memory, compared with the answers that they give with memory at hand.
+#![tactic(auto)]
+
+#[cfg(test)]
+mod calls;
+#[cfg(test)]
+mod made;
+#[cfg(test)]
+mod runs;
