@@ -1,6 +1,6 @@
 //! The piece in which the parts of a text wait for a sink.
 
-ghost use Rattle.std.specs.Prelude.{◌≡◌, ◌+◌, ◌≤◌, [], ◌++◌, length};
+ghost use Rattle.std.specs.Prelude.{◌≡◌, ◌+◌, ◌<◌, ◌≤◌, [], ◌∷◌, ◌++◌, length};
 ghost use Rattle.bh_outside.specs.Outside.{HasCause, Writes};
 ghost use Rattle.bh_outside.specs.Text.{Puts};
 
@@ -48,6 +48,7 @@ impl Piece {
     ///
     /// `Failed` only where the sink's count of faults rose. The sink then took a prefix of the
     /// bytes that waited and the text.
+    #[inline]
     pub fn put<K: Sink>(&mut self, sink: &mut K, text: &[u8]) -> Result<(), Failed>
         ensures text { Puts (K.written sink.old) (K.written sink.new) self.old self.new text.now result }
         ensures cause { HasCause (K.faults sink.old) (K.faults sink.new) result }
@@ -57,6 +58,24 @@ impl Piece {
             return Ok(());
         }
         self.put_over(sink, text)
+    }
+
+    /// Puts one byte of a text behind the bytes that wait, as `put` does with a part of one byte.
+    ///
+    /// # Errors
+    ///
+    /// `Failed` only where the sink's count of faults rose. The sink then took a prefix of the
+    /// bytes that waited and this byte.
+    #[inline]
+    pub fn put_byte<K: Sink>(&mut self, sink: &mut K, byte: u8) -> Result<(), Failed>
+        ensures text { Puts (K.written sink.old) (K.written sink.new) self.old self.new (byte ∷ []) result }
+        ensures cause { HasCause (K.faults sink.old) (K.faults sink.new) result }
+    {
+        if self.filled < PIECE {
+            self.keep_byte(byte);
+            return Ok(());
+        }
+        self.put_over(sink, &[byte])
     }
 
     /// Writes the bytes that wait to the sink. Afterwards nothing waits.
@@ -83,6 +102,17 @@ impl Piece {
         let end = self.filled + text.len();
         self.bytes[self.filled..end].copy_from_slice(text);
         self.filled = end;
+    }
+
+    // Puts a byte that fits behind the bytes that wait: no copy of a slice, since most parts of a
+    // tree's text are one byte.
+    #[inline]
+    fn keep_byte(&mut self, byte: u8)
+        requires fits { length self.old < 65536 }
+        ensures { self.new ≡ self.old ++ (byte ∷ []) }
+    {
+        self.bytes[self.filled] = byte;
+        self.filled += 1;
     }
 
     // Puts a text, which may be longer than what fits.

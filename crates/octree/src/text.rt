@@ -14,7 +14,7 @@ fn put_body<K: Sink>(n: u64, piece: &mut Piece, sink: &mut K) -> Result<(), Fail
     ensures text { Puts (K.written sink.old) (K.written sink.new) piece.old piece.new (98 ∷ decimal n) result }
     ensures cause { HasCause (K.faults sink.old) (K.faults sink.new) result }
 {
-    match piece.put(sink, b"b") {
+    match piece.put_byte(sink, b'b') {
         Ok(()) => {
             let mut buffer = Buffer::new();
             piece.put(sink, buffer.format(n).as_bytes())
@@ -37,12 +37,12 @@ pub fn put_word<K: Sink>(
     ensures cause { HasCause (K.faults sink.old) (K.faults sink.new) result }
 {
     if below == 0 || word == 0 {
-        return piece.put(sink, b".");
+        return piece.put_byte(sink, b'.');
     }
     if word % 2 == 1 {
         return put_body(word / 2, piece, sink);
     }
-    match piece.put(sink, b"(") {
+    match piece.put_byte(sink, b'(') {
         Ok(()) => {}
         Err(failed) => return Err(failed),
     }
@@ -53,5 +53,5 @@ pub fn put_word<K: Sink>(
             Err(failed) => return Err(failed),
         }
     }
-    piece.put(sink, b")")
+    piece.put_byte(sink, b')')
 }

@@ -12,7 +12,7 @@ pub returns-then-below-eq0-clause-text : goal.returns-then-below-eq0-clause-text
 returns-then-below-eq0-clause-text g t c =
     let at : ℕ → ℕ = at_of c.args.words.now.items in
     let is : text (tree_from at c.args.below c.args.word) ≡ 46 ∷ [] = elim c.then-below-eq0.either [ inl e ↦ text_at_end at c.args.below c.args.word e | inr e ↦ text_none at c.args.below c.args.word e.1 ] in
-    subst (λ (y : List ℕ). Puts (g.K.Sink.written c.args.sink.now) (g.K.Sink.written c.put.new.sink) c.args.piece.now c.put.new.self y c.put.result) (sym is) c.put.ensures.text
+    subst (λ (y : List ℕ). Puts (g.K.Sink.written c.args.sink.now) (g.K.Sink.written c.put_byte.new.sink) c.args.piece.now c.put_byte.new.self y c.put_byte.result) (sym is) c.put_byte.ensures.text
 
 pub returns-then-word-eq1-clause-text : goal.returns-then-word-eq1-clause-text
 returns-then-word-eq1-clause-text g t c =
@@ -25,7 +25,7 @@ returns-in-Err-clause-text g t c =
     let kids : ℕ → List ℕ = child_texts at c.args.below c.args.word in
     let is = text_many at c.args.below c.args.word c.if-below-eq0.false c.if-word-eq0.false c.if-word-eq1.false in
     let before = g.K.Sink.written c.args.sink.now in
-    let after = g.K.Sink.written c.put-2.new.sink in
+    let after = g.K.Sink.written c.put_byte-2.new.sink in
     subst (λ (y : List ℕ). PutsFront before after c.args.piece.now y) (sym is) (puts_failed before after c.args.piece.now (40 ∷ []) (joined kids 8 ++ (41 ∷ [])) c.in-Err.ensures.text)
 
 pub overflow_mul-cell : goal.overflow_mul-cell
@@ -115,9 +115,9 @@ returns-clause-text g t c =
     let is = text_many at c.args.below c.args.word c.if-below-eq0.false c.if-word-eq0.false c.if-word-eq1.false in
     let before = g.K.Sink.written c.args.sink.now in
     let middle = g.K.Sink.written c.loop-k.sink in
-    let after = g.K.Sink.written c.put-3.new.sink in
+    let after = g.K.Sink.written c.put_byte-3.new.sink in
     let all : c.loop-k.k ≡ 8 = omega arith in
     let children : PutsAll before middle c.args.piece.now c.loop-k.piece (40 ∷ joined kids 8) =
     subst (λ (y : ℕ). PutsAll before middle c.args.piece.now c.loop-k.piece (40 ∷ joined kids y)) all c.loop-k.invariant.0 in
-    subst (λ (y : List ℕ). Puts before after c.args.piece.now c.put-3.new.self y c.put-3.result) (sym is)
-    (puts_then before middle after c.args.piece.now c.loop-k.piece c.put-3.new.self (40 ∷ joined kids 8) (41 ∷ []) c.put-3.result children c.put-3.ensures.text)
+    subst (λ (y : List ℕ). Puts before after c.args.piece.now c.put_byte-3.new.self y c.put_byte-3.result) (sym is)
+    (puts_then before middle after c.args.piece.now c.loop-k.piece c.put_byte-3.new.self (40 ∷ joined kids 8) (41 ∷ []) c.put_byte-3.result children c.put_byte-3.ensures.text)
