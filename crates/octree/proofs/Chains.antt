@@ -1,7 +1,7 @@
 -- The steps of building the cells that part two bodies.
-use Rattle.std.proofs.Common.{ℕ, ◌+◌, ◌-◌, ◌*◌, ◌<◌, ◌≤◌, ◌≡◌, ◌≢◌, ◌⊎◌, zero, suc, refl, sym, ◌∙◌, ap, subst, inl, inr, arith, List, length, slice_set, add-one}
+use Rattle.std.proofs.Common.{ℕ, ◌+◌, ◌*◌, ◌<◌, ◌≤◌, ◌≡◌, ◌≢◌, ◌⊎◌, suc, refl, sym, ◌∙◌, ap, subst, inl, inr, arith, List, length, slice_set, add-one}
 use Rattle.std.proofs.lemmas.Bool.{cases_lt}
-use Rattle.octant_code.specs.Space.{IsInCube, IsUnder, Site, key_of, octant_of}
+use Rattle.octant_code.specs.Space.{IsInCube, Site, key_of, octant_of}
 use Rattle.octant_code.specs.Points.{site_at, ArePoints}
 use Rattle.octant_code.proofs.Keys.{key-suc, octant-small}
 use Rattle.octant_code.proofs.InCube.{same_site}
@@ -9,7 +9,7 @@ use Rattle.bh_model.proofs.Equal.{same_or_not}
 use Rattle.octree.proofs.Words.{at_set_other, at_set_same, set_length}
 use Rattle.octree.specs.Chain.{IsOneOf, IsTaken}
 use Rattle.octree.specs.Stored.{IsBlankFrom}
-use Rattle.tree_rule.proofs.Chain.{Pair, fork_stands, link_stands}
+use Rattle.tree_rule.proofs.Chain.{fork_stands, link_stands}
 use Rattle.tree_rule.proofs.Parts.{Only}
 use Rattle.tree_rule.proofs.Walk.{stands_moved, stands_same}
 use Rattle.tree_rule.specs.Flat.{IsShared, StandsFor}
@@ -29,6 +29,7 @@ pub key_deeper : (sites : List Site) (x n level : ℕ) → key_of (site_at sites
 key_deeper sites x n level k o =
     key-suc (site_at sites x) level ∙ (ap (λ y. 8 * y + octant_of (site_at sites x) level) k ∙ ap (λ y. 8 * key_of (site_at sites n) level + y) o) ∙ sym (key-suc (site_at sites n) level)
 
+-- two bodies of one octant are not at the last level but one
 pub level_deeper : (sites : List Site) (x n level : ℕ) → ArePoints sites → IsInCube (site_at sites x) → IsInCube (site_at sites n) → x < length sites → n < length sites → x ≢ n → level ≤ 20
     → key_of (site_at sites x) level ≡ key_of (site_at sites n) level → octant_of (site_at sites x) level ≡ octant_of (site_at sites n) level → level < 20
 level_deeper sites x n level h a b p q d l k o =

@@ -1,13 +1,13 @@
 -- A step of the way down.
-use Rattle.std.proofs.Common.{ℕ, ◌+◌, ◌-◌, ◌*◌, ◌/◌, ◌%◌, ◌<◌, ◌≤◌, ◌≡◌, ◌≢◌, zero, suc, refl, sym, ◌∙◌, ap, subst, arith, List, length, add-one, slice_index_or}
+use Rattle.std.proofs.Common.{ℕ, ◌+◌, ◌-◌, ◌*◌, ◌/◌, ◌%◌, ◌<◌, ◌≤◌, ◌≡◌, ◌≢◌, refl, sym, ◌∙◌, ap, subst, arith, List, length, add-one, slice_index_or}
 use Rattle.std.proofs.lemmas.List.{get_or_read}
 use Rattle.octant_code.specs.Space.{Site, octant_of, key_of}
 use Rattle.octant_code.specs.Points.{site_at}
 use Rattle.octant_code.proofs.Keys.{key-suc, octant-small, same_level}
 use Rattle.octree.specs.Stored.{StandsWell}
 use Rattle.tree_rule.proofs.Graft.{word_at_place}
-use Rattle.tree_rule.specs.Flat.{ChildPlace, IsPlaceOf, IsShared, IsWordOf, StandsFor, TopPlace}
-use Rattle.tree_rule.specs.Words.{HasBody, HasCell, at_of, body_word, cell_word, child_place, key_place}
+use Rattle.tree_rule.specs.Flat.{ChildPlace, IsPlaceOf, IsWordOf}
+use Rattle.tree_rule.specs.Words.{HasCell, at_of, cell_word, key_place}
 
 -- what a word that names a cell tells on the way down
 pub record StepsDown (words : List ℕ) (base : ℕ) (s : Site) (place level c : ℕ) : Type 0 where
@@ -15,6 +15,7 @@ pub record StepsDown (words : List ℕ) (base : ℕ) (s : Site) (place level c :
   pub shallow : level ≤ 20
   pub there : IsPlaceOf (at_of words) 0 base (HasCell words) (key_of s (level + 1)) (3 + 10 * c + octant_of s level)
 
+-- a word that names a cell leads to the place of the child that holds the point
 pub steps_down : (sites : List Site) (words : List ℕ) (base : ℕ) (s : Site) (place level w : ℕ) → StandsWell sites words base
     → IsPlaceOf (at_of words) 0 base (HasCell words) (key_of s level) place → w ≡ at_of words place → w ≢ 0 → w % 2 ≡ 0
     → StepsDown words base s place level (w / 2 - 1)
@@ -43,6 +44,7 @@ pub record IsOnTheWay (sites : List Site) (words : List ℕ) (n from place level
   pub below : from ≤ level
   pub inside : place < length words
 
+-- and the way down goes on there
 pub stepped : (sites : List Site) (words : List ℕ) (n from place level w : ℕ) → StandsWell sites words (key_of (site_at sites n) from)
     → IsOnTheWay sites words n from place level → w ≡ slice_index_or words place w → w ≢ 0 → w % 2 ≢ 1
     → StepsDown words (key_of (site_at sites n) from) (site_at sites n) place level (w / 2 - 1)

@@ -1,24 +1,21 @@
 -- What an insertion leaves.
-use Rattle.std.proofs.Common.{ℕ, ◌+◌, ◌-◌, ◌*◌, ◌/◌, ◌%◌, ◌^◌, ◌<◌, ◌≤◌, ◌≡◌, ◌≢◌, ◌⊎◌, ◌↔◌, zero, suc, refl, sym, ◌∙◌, ap, subst, inl, inr, arith, List, length, slice_set, slice_index_or, add-one}
+use Rattle.std.proofs.Common.{ℕ, ◌+◌, ◌*◌, ◌/◌, ◌<◌, ◌≤◌, ◌≡◌, ◌≢◌, ◌⊎◌, ◌↔◌, refl, sym, ◌∙◌, ap, subst, inl, inr, arith, List, length, slice_set, slice_index_or}
 use Rattle.std.proofs.lemmas.List.{get_or_read}
 use Rattle.bh_model.specs.Bodies.{IsIn, NoneTwice}
 use Rattle.bh_model.specs.Trees.{octree}
-use Rattle.octree.proofs.Chains.{sites_differ}
 use Rattle.octree.proofs.Words.{at_set_other, at_set_same, set_length}
 use Rattle.octree.specs.Chain.{IsOneOf, IsTaken}
 use Rattle.octree.specs.Stored.{IsBlankFrom, IsCanonical, IsInserted, IsStored, StandsWell, Stored, tree_of}
-use Rattle.tree_rule.proofs.Canonical.{ACell, NoBody, OneBody, WordIs, flat_gives_canonical, word_is}
+use Rattle.tree_rule.proofs.Canonical.{ACell, NoBody, OneBody, flat_gives_canonical, word_is}
 use Rattle.tree_rule.proofs.Graft.{Grafts, graft, key_apart, word_at_place}
 use Rattle.tree_rule.proofs.Parts.{Nothing, Only, stands_body}
 use Rattle.tree_rule.proofs.Sound.{bodies_of_stands, sound_of_stands, stands_of_sound}
 use Rattle.tree_rule.proofs.Walk.{body_reached, cell_reached, stands_moved, stands_same}
-use Rattle.tree_rule.specs.Flat.{ChangedAt, ChildPlace, Either, IsPlaceOf, IsShared, IsWordOf, StandsFor, TopPlace}
-use Rattle.tree_rule.specs.Words.{HasBody, HasCell, IsReached, at_of, body_word, cell_word, child_place, key_place}
-use Rattle.std.proofs.lemmas.Bool.{cases_lt}
-use Rattle.octant_code.specs.Space.{Site, octant_of, key_of, IsUnder}
+use Rattle.tree_rule.specs.Flat.{ChildPlace, Either, IsPlaceOf, IsWordOf, StandsFor, TopPlace}
+use Rattle.tree_rule.specs.Words.{HasBody, HasCell, at_of, body_word, cell_word, child_place, key_place}
+use Rattle.octant_code.specs.Space.{Site, key_of, IsUnder}
 use Rattle.octant_code.specs.Points.{site_at, ArePoints}
 use Rattle.octant_code.proofs.Keys.{same_level, level_of_key, pow8-mono}
-use Rattle.octant_code.proofs.InCube.{same_site}
 
 -- the words after a graft
 pub record IsGrafted (sites : List Site) (words after : List ℕ) (base : ℕ) (Q M : ℕ → Type 0) : Type 0 where
@@ -26,6 +23,7 @@ pub record IsGrafted (sites : List Site) (words after : List ℕ) (base : ℕ) (
   pub cells : (c : ℕ) → HasCell after c ↔ (HasCell words c ⊎ Q c)
   pub bodies : (m : ℕ) → HasBody after m ↔ (HasBody words m ⊎ M m)
 
+-- a graft gives words that stand for the bodies of both
 pub grafted : (sites : List Site) (words at_least after : List ℕ) (base : ℕ) (Q M : ℕ → Type 0) (key place w : ℕ)
     → Grafts (site_at sites) (at_of at_least) (at_of after) 0 base (HasCell words) Q (HasBody words) M (HasBody words) M key place w → IsGrafted sites words after base Q M
 grafted sites words at_least after base Q M key place w g =
@@ -58,6 +56,7 @@ pub place_used : (words : List ℕ) (base key place used : ℕ) → ((c : ℕ) �
 place_used words base key place used few (TopPlace k e low) = omega arith
 place_used words base key place used few (ChildPlace c j p l k e) = omega (arith, few c p)
 
+-- a place of a word stays one where the words of used cells stay
 place_moved : (words next : List ℕ) (base key place used : ℕ) → ((c : ℕ) → HasCell words c → c < used) → ((i : ℕ) → i < 3 + 10 * used → at_of next i ≡ at_of words i)
     → IsPlaceOf (at_of words) 0 base (HasCell words) key place → IsPlaceOf (at_of next) 0 base (HasCell words) key place
 place_moved words next base key place used few kept (TopPlace k e low) = TopPlace k e low
@@ -94,6 +93,7 @@ pub record Meets (sites : List Site) (x n level : ℕ) : Type 0 where
   pub x_in : x < length sites
   pub together : key_of (site_at sites x) level ≡ key_of (site_at sites n) level
 
+-- a word that names a body lies beside the other body of its cube
 pub meets : (sites : List Site) (words : List ℕ) (base place level x n : ℕ) → ArePoints sites → StandsWell sites words base
     → ((m : ℕ) → HasBody words m → m < length sites) → IsPlaceOf (at_of words) 0 base (HasCell words) (key_of (site_at sites n) level) place
     → at_of words place ≡ body_word x → n < length sites → level ≤ 21 → (HasBody words n → ⊥) → Meets sites x n level
@@ -118,13 +118,16 @@ pub record IsDone (sites : List Site) (n : ℕ) (before after : Stored) : Type 0
   pub canonical : IsCanonical sites after
   pub inserted : IsInserted n before after
 
+-- a canonical octree has words that stand for its bodies
 pub stands_of : (sites : List Site) (o : Stored) → IsStored o → IsCanonical sites o → StandsWell sites o.words o.base
 stands_of sites o h canon =
     stands_of_sound (site_at sites) (at_of o.words) (at_of o.words 0) o.base (omega (arith, h.base_low, pow8-mono 0 o.level (omega arith))) h.sound canon.under
 
+-- the key of the cube is that of a point in it
 pub base_is : (o : Stored) (s : Site) → IsStored o → IsUnder o.base s → o.base ≡ key_of s o.level
 base_is o s h u = let l : u.0 ≡ o.level = level_of_key s o.base o.level u.0 h.base_low h.base_high u.2 in u.2 ∙ ap (key_of s) l
 
+-- an octree with other words and another count of used cells
 abbrev pub with_words : Stored → List ℕ → ℕ → Stored
 with_words o words used = record { words = words; base = o.base; level = o.level; used = used; held = o.held }
 
@@ -229,12 +232,15 @@ pub can_insert : (sites : List Site) (before o : Stored) (n : ℕ) → o ≡ bef
     → IsCanonical sites before → (HasBody before.words n → ⊥) → CanInsert sites before o n
 can_insert sites before o n v s r i u c f = record { value = v; stored = s; rule = r; n_in = i; under = u; canonical = c; fresh = f }
 
+-- the octree as it is stored is canonical
 pub canonical_now : (sites : List Site) (before o : Stored) (n : ℕ) → CanInsert sites before o n → IsCanonical sites o
 canonical_now sites before o n h = subst (λ (y : Stored). IsCanonical sites y) (sym h.value) h.canonical
 
+-- its cube holds the point
 pub base_now : (sites : List Site) (before o : Stored) (n : ℕ) → CanInsert sites before o n → o.base ≡ key_of (site_at sites n) o.level
 base_now sites before o n h = base_is o (site_at sites n) h.stored (subst (λ (y : Stored). IsUnder y.base (site_at sites n)) (sym h.value) h.under)
 
+-- its words stand for its bodies, below that cube
 pub stands_now : (sites : List Site) (before o : Stored) (n : ℕ) → CanInsert sites before o n → StandsWell sites o.words (key_of (site_at sites n) o.level)
 stands_now sites before o n h = subst (λ (y : ℕ). StandsWell sites o.words y) (base_now sites before o n h) (stands_of sites o h.stored (canonical_now sites before o n h))
 
@@ -251,11 +257,13 @@ pub found_at : (sites : List Site) (o : Stored) (n place level word : ℕ) → I
     → ((c : ℕ) → at_of o.words place ≡ cell_word c → ⊥) → level ≤ 21 → place < length o.words → word ≡ slice_index_or o.words place word → Found sites o n place level word
 found_at sites o n place level word t c s i e = record { there = t; no_cell = c; shallow = s; inside = i; is = e }
 
+-- the place that was found is one below its cube
 pub there_now : (sites : List Site) (before o : Stored) (n place level word : ℕ) → CanInsert sites before o n → Found sites o n place level word
     → IsPlaceOf (at_of o.words) 0 o.base (HasCell o.words) (key_of (site_at sites n) level) place
 there_now sites before o n place level word h f =
     subst (λ (y : ℕ). IsPlaceOf (at_of o.words) 0 y (HasCell o.words) (key_of (site_at sites n) level) place) (sym (base_now sites before o n h)) f.there
 
+-- where the word is empty, the body takes its place
 pub empty_case : (sites : List Site) (before o : Stored) (n place level word v : ℕ) → CanInsert sites before o n → Found sites o n place level word → word ≡ 0 → v ≡ body_word n
     → IsDone sites n before (with_words o (slice_set o.words place v) o.used)
 empty_case sites before o n place level word v h f empty is =
@@ -270,6 +278,7 @@ pub record IsBeside (sites : List Site) (o : Stored) (n place level word : ℕ) 
   pub differ : word / 2 ≢ n
   pub small : word / 2 < 65536
 
+-- where it is not, it names another body of the cube
 pub body_case : (sites : List Site) (before o : Stored) (n place level word : ℕ) → CanInsert sites before o n → Found sites o n place level word → word ≢ 0
     → IsBeside sites o n place level word
 body_case sites before o n place level word h f some =
@@ -295,6 +304,7 @@ body_case sites before o n place level word h f some =
       small = omega (arith, m.x_in, h.rule.few);
     }
 
+-- and the cells that part the two take its place
 pub parted_case : (sites : List Site) (before o : Stored) (next : List ℕ) (n place level word to v : ℕ) → CanInsert sites before o n → Found sites o n place level word → word ≢ 0
     → length next ≡ length o.words → ((i : ℕ) → i < 3 + 10 * o.used → at_of next i ≡ at_of o.words i) → IsBlankFrom next to → o.used < to → to ≤ o.used + 21 → to ≤ o.held
     → StandsFor (site_at sites) (at_of next) (cell_word o.used) (key_of (site_at sites n) level) (IsTaken o.used to) (IsOneOf (word / 2) n) → v ≡ cell_word o.used

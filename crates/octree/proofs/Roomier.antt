@@ -5,7 +5,7 @@ use Rattle.std.proofs.lemmas.List.{get_or_past}
 use mathlib.Core.Path.{fun_ext}
 use Rattle.octant_code.specs.Space.{Site}
 use Rattle.octree.specs.Stored.{IsCanonical, IsRoomier, IsStored, Stored}
-use Rattle.tree_rule.specs.Words.{HasBody, HasCell, IsReached, at_of, body_word, cell_word}
+use Rattle.tree_rule.specs.Words.{HasBody, IsReached, at_of, body_word, cell_word}
 use Rattle.tree_rule.specs.Sound.{BodiesUnder, IsSound}
 use Rattle.octant_code.specs.Points.{site_at}
 
@@ -44,6 +44,7 @@ roomier_stored o words held h same long more few = record {
 pub roomier_bodies : (before after : Stored) (n : ℕ) → IsRoomier before after → HasBody after.words n → HasBody before.words n
 roomier_bodies before after n r b = subst (λ (at : ℕ → ℕ). IsReached at (at 0) (body_word n)) r.words_stay b
 
+-- and has no fewer
 pub bodies_roomier : (before after : Stored) (n : ℕ) → IsRoomier before after → HasBody before.words n → HasBody after.words n
 bodies_roomier before after n r b = subst (λ (at : ℕ → ℕ). IsReached at (at 0) (body_word n)) (sym r.words_stay) b
 

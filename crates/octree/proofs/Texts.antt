@@ -1,11 +1,11 @@
 -- The text of a word's tree, in pieces.
-use Rattle.std.proofs.Common.{ℕ, ◌+◌, ◌-◌, ◌*◌, ◌/◌, ◌%◌, ◌<◌, ◌≤◌, ◌≡◌, ◌≢◌, zero, suc, refl, sym, ◌∙◌, ap, subst, arith, List, [], ◌∷◌, ◌++◌, decimal, inl, inr, add-one, append_assoc, append-nil, Result, Ok, Err, OnOk, OnErr, length, slice_index_or}
+use Rattle.std.proofs.Common.{ℕ, ◌+◌, ◌-◌, ◌*◌, ◌/◌, ◌%◌, ◌<◌, ◌≡◌, ◌≢◌, zero, suc, refl, sym, ◌∙◌, ap, subst, arith, List, [], ◌∷◌, ◌++◌, decimal, inl, inr, add-one, append_assoc, append-nil, length, slice_index_or}
 use Rattle.std.proofs.lemmas.List.{get_or_read}
 use Rattle.bh_model.proofs.Lists.{joined}
-use Rattle.bh_model.proofs.Trees.{order-body, order-cell, order-empty, text-body, text-cell, text-empty}
-use Rattle.bh_model.specs.Trees.{Body, Cell, Empty, Tree, cell_of, order, text}
+use Rattle.bh_model.proofs.Trees.{text-body, text-cell, text-empty}
+use Rattle.bh_model.specs.Trees.{Empty, Tree, text}
 use Rattle.tree_rule.proofs.Canonical.{tree-body, tree-cell, tree-empty}
-use Rattle.tree_rule.specs.Words.{Below, HasCell, Here, IsReached, at_of, body_word, cell_word, child_place, tree_from}
+use Rattle.tree_rule.specs.Words.{HasCell, IsReached, at_of, body_word, cell_word, child_place, tree_from}
 use Rattle.std.proofs.lemmas.Bool.{cases_lt}
 
 -- read to no depth every word is empty
@@ -17,10 +17,12 @@ tree-zero at w = refl
 pub text_at_end : (at : ℕ → ℕ) (below w : ℕ) → below ≡ 0 → text (tree_from at below w) ≡ 46 ∷ []
 text_at_end at below w e = ap (λ y. text (tree_from at y w)) e ∙ ap text (tree-zero at w) ∙ text-empty
 
+-- an empty word is a dot
 pub text_none : (at : ℕ → ℕ) (below w : ℕ) → w ≡ 0 → text (tree_from at below w) ≡ 46 ∷ []
 text_none at zero w e = text_at_end at 0 w refl
 text_none at (suc below) w e = ap (λ y. text (tree_from at (suc below) y)) e ∙ ap text (tree-empty at below) ∙ text-empty
 
+-- a body's word is `b` and its number
 pub text_one : (at : ℕ → ℕ) (below w : ℕ) → below ≢ 0 → w % 2 ≡ 1 → text (tree_from at below w) ≡ 98 ∷ decimal (w / 2)
 text_one at zero w n odd = absurd (n refl)
 text_one at (suc below) w n odd =
@@ -31,6 +33,7 @@ text_one at (suc below) w n odd =
 abbrev pub child_texts : (ℕ → ℕ) → ℕ → ℕ → ℕ → List ℕ
 child_texts at below w j = text (tree_from at (below - 1) (at (child_place (w / 2 - 1) j)))
 
+-- a cell's word is the texts of its children in brackets
 pub text_many : (at : ℕ → ℕ) (below w : ℕ) → below ≢ 0 → w ≢ 0 → w % 2 ≢ 1 → text (tree_from at below w) ≡ (40 ∷ joined (child_texts at below w) 8) ++ (41 ∷ [])
 text_many at zero w n some even = absurd (n refl)
 text_many at (suc below) w n some even =

@@ -1,7 +1,6 @@
 -- What a word says.
 use Rattle.std.specs.Prelude.{ℕ, ◌≡◌}
 use Rattle.tree_rule.specs.Words.{body_word, cell_word}
-use Rattle.octree.specs.declared.node.CellNo.{CellNo}
 use Rattle.octree.specs.declared.node.Node.{Node}
 use Rattle.octree.specs.declared.node.Node.TheVariants.{Empty, Body, Cell}
 

@@ -135,6 +135,7 @@ impl Octree {
         requires { self.old.used + cells ≤ 1376256 }
         ensures room { OnOk result (cells ≤ spare_of self.new) }
         ensures stays { IsRoomier self.old self.new }
+        ensures refused { OnErr result (self.new ≡ self.old) }
     {
         if cells <= self.held - self.used {
             return Ok(());

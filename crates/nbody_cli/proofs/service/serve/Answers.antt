@@ -1,5 +1,4 @@
-use Rattle.std.proofs.Common.{◌≡◌, Bool, true, false, map, string_bytes, refl, sym, ◌∙◌}
-use Rattle.nbody_cli.specs.Words.{asks_for_tree}
+use Rattle.std.proofs.Common.{sym}
 use Rattle.nbody_cli.proofs.ServeFacts.{serves_long, serves_long_write, serves_memory, serves_read, serves_usage, serves_usage_write}
 use Rattle.nbody_cli.proofs.service.serve.Goals as goal
 

@@ -1,13 +1,9 @@
-use Rattle.std.proofs.Common.{rules, arith, ◌≡◌, ◌≢◌, ◌+◌, ◌-◌, ◌*◌, ◌<◌, ◌≤◌, ℕ, length, vec_len, slice_set, ap, sym, subst, ◌∙◌, add-one, refl, suc}
+use Rattle.std.proofs.Common.{arith, ◌≡◌, ◌+◌, ◌*◌, ◌<◌, ap, sym, subst, ◌∙◌, add-one}
 use Rattle.octant_code.specs.Space.{IsInCube, Site, key_of, octant_of}
 use Rattle.octant_code.specs.Points.{site_at}
 use Rattle.octant_code.proofs.Keys.{key-next-fits, key-suc}
 use Rattle.octree.proofs.Chains.{forked, key_deeper, level_deeper, linked}
-use Rattle.octree.proofs.Words.{at_set_other, at_set_same, set_length}
-use Rattle.octree.specs.Chain.{IsOneOf, IsTaken}
-use Rattle.octree.specs.Stored.{IsBlankFrom}
-use Rattle.tree_rule.specs.Flat.{StandsFor}
-use Rattle.tree_rule.specs.Words.{at_of, body_word, cell_word, child_place, key_place}
+use Rattle.octree.proofs.Words.{at_set_other, set_length}
 use Rattle.octree.proofs.chain.+part_two.Goals as goal
 
 pub overflow_mul-inner : goal.overflow_mul-inner

@@ -1,10 +1,9 @@
-use Rattle.std.proofs.Common.{arith, ◌≡◌, ◌≢◌, ◌+◌, ◌*◌, ◌<◌, ◌≤◌, ℕ, length, ◌-◌, ◌/◌, ◌%◌, List, ap, sym, subst, refl, ◌∙◌}
+use Rattle.std.proofs.Common.{arith, ◌≡◌, ◌+◌, ◌*◌, ℕ, ◌-◌, ◌/◌, ap, sym, subst, ◌∙◌}
 use Rattle.octant_code.specs.Space.{key_of, octant_of}
 use Rattle.octant_code.specs.Points.{site_at}
-use Rattle.octree.proofs.Descends.{IsOnTheWay, StepsDown, stepped}
-use Rattle.octree.specs.Stored.{StandsWell}
-use Rattle.tree_rule.specs.Flat.{IsPlaceOf, TopPlace}
-use Rattle.tree_rule.specs.Words.{HasCell, at_of, cell_word}
+use Rattle.octree.proofs.Descends.{stepped}
+use Rattle.tree_rule.specs.Flat.{IsPlaceOf}
+use Rattle.tree_rule.specs.Words.{HasCell, at_of}
 use Rattle.octree.proofs.descend.find_place.Goals as goal
 
 -- src/descend.rt:41:21

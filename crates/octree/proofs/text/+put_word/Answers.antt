@@ -1,10 +1,10 @@
-use Rattle.std.proofs.Common.{rules, arith, ◌≡◌, ◌≢◌, ◌++◌, ◌+◌, ◌-◌, ◌*◌, ◌<◌, ◌≤◌, ◌/◌, ◌%◌, List, ℕ, [], ◌∷◌, length, sym, ◌∙◌, ap, subst, refl, inl, inr}
+use Rattle.std.proofs.Common.{rules, arith, ◌≡◌, ◌++◌, ◌+◌, ◌-◌, ◌*◌, ◌≤◌, ◌/◌, List, ℕ, [], ◌∷◌, length, sym, ◌∙◌, subst, refl, inl, inr}
 use Rattle.std.proofs.lemmas.List.{append_assoc}
 use Rattle.bh_outside.specs.Text.{Puts, PutsAll, PutsFront}
 use Rattle.bh_outside.proofs.TextFacts.{puts_fail, puts_failed, puts_more, puts_then}
 use Rattle.bh_model.proofs.Lists.{joined}
 use Rattle.bh_model.specs.Trees.{text}
-use Rattle.tree_rule.specs.Words.{Below, HasCell, IsReached, at_of, child_place, tree_from}
+use Rattle.tree_rule.specs.Words.{Below, IsReached, at_of, child_place, tree_from}
 use Rattle.octree.proofs.Texts.{child_is, child_texts, has_cell, joined_more, joined_split, rest_of_cell, text_at_end, text_many, text_none, text_one}
 use Rattle.octree.proofs.text.+put_word.Goals as goal
 

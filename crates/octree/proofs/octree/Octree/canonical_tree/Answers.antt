@@ -1,10 +1,6 @@
-use Rattle.std.proofs.Common.{◌≡◌, ℕ, List, subst, sym, ◌↔◌}
-use Rattle.octant_code.specs.Points.{site_at}
-use Rattle.bh_model.specs.Bodies.{IsIn, NoneTwice}
-use Rattle.bh_model.specs.Trees.{octree}
+use Rattle.std.proofs.Common.{subst}
 use Rattle.octree.proofs.Inserts.{tree_is}
-use Rattle.octree.specs.Stored.{IsCanonical, IsStored, Stored, tree_of}
-use Rattle.tree_rule.specs.Words.{HasBody}
+use Rattle.octree.specs.Stored.{IsStored, Stored}
 use Rattle.octree.proofs.octree.Octree.canonical_tree.Goals as goal
 
 pub returns : goal.returns

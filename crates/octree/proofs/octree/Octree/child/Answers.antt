@@ -1,7 +1,7 @@
-use Rattle.std.proofs.Common.{arith, ◌≡◌, ◌<◌, ◌+◌, ◌*◌, ℕ, length, refl, sym, subst}
+use Rattle.std.proofs.Common.{arith, ◌+◌, ◌*◌, refl, sym, subst}
 use Rattle.octree.proofs.ReadWords.{read_small}
 use Rattle.octree.specs.Stored.{Stored}
-use Rattle.tree_rule.specs.Words.{Below, HasCell, Here, IsReached, at_of}
+use Rattle.tree_rule.specs.Words.{Below, HasCell, at_of}
 use Rattle.octree.proofs.octree.Octree.child.Goals as goal
 
 pub node_of-requires : goal.node_of-requires

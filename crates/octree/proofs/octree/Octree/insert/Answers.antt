@@ -1,10 +1,9 @@
-use Rattle.std.proofs.Common.{arith, ◌≡◌, ◌≢◌, ◌+◌, ◌*◌, ◌<◌, ◌≤◌, ℕ, length, ◌-◌, ◌/◌, ◌%◌, List, slice_set, slice_index_or, sym, ◌∙◌, ap, subst, refl, inl, inr}
-use Rattle.octant_code.specs.Space.{IsInCube, IsUnder, Site, key_of}
+use Rattle.std.proofs.Common.{arith, ◌+◌, ◌*◌, ◌≤◌, ◌/◌, slice_set, sym, subst}
+use Rattle.octant_code.specs.Space.{IsInCube, Site}
 use Rattle.octant_code.specs.Points.{site_at}
 use Rattle.octree.proofs.Chains.{level_shallow}
-use Rattle.octree.proofs.Inserts.{CanInsert, Found, IsBeside, IsDone, Meets, body_case, can_insert, empty_case, found_at, parted_case, stands_now, stored}
-use Rattle.octree.specs.Stored.{IsCanonical, IsInserted, IsStored, StandsWell, Stored}
-use Rattle.tree_rule.specs.Words.{HasBody, HasCell, at_of}
+use Rattle.octree.proofs.Inserts.{IsBeside, IsDone, body_case, can_insert, empty_case, found_at, parted_case, stands_now, stored}
+use Rattle.octree.specs.Stored.{Stored}
 use Rattle.octree.proofs.octree.Octree.insert.Goals as goal
 
 pub find_place-spot-requires-clause-stands : goal.find_place-spot-requires-clause-stands

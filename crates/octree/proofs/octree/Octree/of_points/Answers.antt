@@ -1,4 +1,4 @@
-use Rattle.std.proofs.Common.{◌≡◌, ◌<◌, ℕ, length, arith}
+use Rattle.std.proofs.Common.{◌≡◌, ◌<◌, length, arith}
 use Rattle.octant_code.specs.Points.{site_at}
 use Rattle.bh_model.proofs.Lists.{numbers_once}
 use Rattle.bh_model.specs.Bodies.{numbers}

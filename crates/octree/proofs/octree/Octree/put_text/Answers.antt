@@ -1,6 +1,6 @@
-use Rattle.std.proofs.Common.{◌≡◌, ◌<◌, arith, length}
+use Rattle.std.proofs.Common.{◌<◌, arith, length}
 use Rattle.std.proofs.lemmas.List.{get_or_read}
-use Rattle.tree_rule.specs.Words.{Here, at_of}
+use Rattle.tree_rule.specs.Words.{Here}
 use Rattle.octree.proofs.octree.Octree.put_text.Goals as goal
 
 pub put_word-requires-clause-reached : goal.put_word-requires-clause-reached

@@ -1,5 +1,5 @@
-use Rattle.std.proofs.Common.{◌≡◌, ◌+◌, ◌*◌, ◌≤◌, ℕ, length, vec_len, arith, ap, refl, ◌∙◌}
-use Rattle.octree.specs.Stored.{IsRoomier, Stored}
+use Rattle.std.proofs.Common.{List, ℕ, ◌≡◌, ◌+◌, ◌*◌, ◌≤◌, length, vec_len, arith, ap, refl, ◌∙◌}
+use Rattle.octree.specs.Stored.{Stored}
 use Rattle.octree.proofs.Inserts.{stored}
 use Rattle.octree.proofs.Roomier.{at_longer, roomier_stored}
 use Rattle.tree_rule.specs.Words.{at_of}
@@ -40,3 +40,8 @@ returns-in-Ok-clause-stays c =
       level_stays = ap (λ (y : Stored). y.level) c.self.view_is;
       used_stays = ap (λ (y : Stored). y.used) c.self.view_is;
     }
+
+pub returns-in-Err-clause-refused : goal.returns-in-Err-clause-refused
+returns-in-Err-clause-refused c =
+    let f = c.self.inside in
+    ap (λ (words : List ℕ). stored words f.base f.level f.used f.held) c.in-Err.ensures.items ∙ c.self.view_is

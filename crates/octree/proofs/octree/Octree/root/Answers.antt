@@ -1,7 +1,6 @@
-use Rattle.std.proofs.Common.{arith, ◌≡◌, ◌<◌, ℕ, length, refl}
+use Rattle.std.proofs.Common.{arith, refl}
 use Rattle.octree.proofs.ReadWords.{read_small}
-use Rattle.octree.specs.Stored.{Stored}
-use Rattle.tree_rule.specs.Words.{Below, Here, IsReached, at_of}
+use Rattle.tree_rule.specs.Words.{Here, at_of}
 use Rattle.octree.proofs.octree.Octree.root.Goals as goal
 
 pub node_of-requires : goal.node_of-requires
