@@ -1,0 +1,103 @@
+//! Lists of free cells.
+
+use octant_code::OutOfMemory;
+use octree::CellNo;
+use std::marker::Model;
+
+/// Numbers of cells that are free, each once, with room for as many as it began with. The numbers
+/// are taken and given back at the end of the list.
+///
+/// Contracts see it as `Free`: its cells and its room.
+#[derive(Debug, Drop)]
+pub struct Region {
+    list: Vec<u32>,
+    room: usize,
+}
+
+impl Model for Region {
+    ghost use Rattle.std.specs.Prelude.{◌≤◌, vec_capacity};
+    ghost use Rattle.cell_pool.specs.Free.{Free, IsRegion};
+
+    ghost Value = { Free };
+
+    ghost view = { λ r. record { cells = r.list.items; room = r.room } };
+
+    ghost invariant = { λ r. IsRegion (record { cells = r.list.items; room = r.room }) × (r.room ≤ vec_capacity r.list) };
+}
+
+impl Region {
+    ghost use Rattle.std.specs.Prelude.{◌≡◌, ◌==◌, ◌<◌, ◌≤◌, [], ◌∷◌, ◌++◌, IfOk, OnErr, length};
+    ghost use Rattle.bh_model.specs.Bodies.{IsIn, NoneTwice};
+    ghost use Rattle.cell_pool.specs.Free.{IsRegion, Splits};
+
+    /// The region of a list of distinct numbers, which it takes over. Its room is the list's length.
+    pub fn of(list: Vec<u32>) -> Region
+        requires { NoneTwice list.items }
+        ensures cells { result.cells ≡ list.items }
+        ensures room { result.room ≡ length list.items }
+    {
+        let room = list.len();
+        Region { list, room }
+    }
+
+    /// Takes the last cell.
+    pub fn take(&mut self) -> CellNo
+        requires { 0 < length self.old.cells }
+        ensures cells { self.old.cells ≡ self.new.cells ++ (result.0 ∷ []) }
+        ensures room { self.new.room ≡ self.old.room }
+    {
+        match self.list.pop() {
+            Some(number) => CellNo(number),
+            None => unreachable!(),
+        }
+    }
+
+    /// Gives a cell back, which becomes the last. It takes no memory.
+    pub fn give(&mut self, c: CellNo)
+        requires absent { IsIn self.old.cells c.0 → ⊥ }
+        requires room { length self.old.cells < self.old.room }
+        ensures cells { self.new.cells ≡ self.old.cells ++ (c.0 ∷ []) }
+        ensures room { self.new.room ≡ self.old.room }
+    {
+        match self.list.push(c.0) {
+            Ok(()) => {}
+            Err(_) => unreachable!(),
+        }
+    }
+
+    /// Parts off the last `n` cells into a region of their own, with room for them. This one keeps
+    /// its room.
+    pub fn split_off(&mut self, n: usize) -> Result<Region, OutOfMemory>
+        requires { n ≤ length self.old.cells }
+        ensures split { IfOk result (Splits self.old self.new n) }
+        ensures refused { OnErr result (self.new ≡ self.old) }
+    {
+        let from = self.list.len() - n;
+        match self.list.split_off(from) {
+            Ok(list) => Ok(Region { list, room: n }),
+            Err(_) => Err(OutOfMemory),
+        }
+    }
+
+    /// How many cells there are.
+    pub fn len(&self) -> usize
+        ensures value { result ≡ length self.now.cells }
+        ensures rule { IsRegion self.now }
+    {
+        self.list.len()
+    }
+
+    /// Whether there is no cell.
+    pub fn is_empty(&self) -> bool
+        ensures { result ≡ (length self.now.cells == 0) }
+    {
+        self.list.is_empty()
+    }
+
+    /// How many cells there is room for.
+    pub fn room(&self) -> usize
+        ensures { result ≡ self.now.room }
+    {
+        self.room
+    }
+}
