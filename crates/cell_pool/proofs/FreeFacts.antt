@@ -1,5 +1,5 @@
 -- Parts of a list in which no number stands twice, and one number more.
-use Rattle.std.proofs.Common.{ℕ, ◌≡◌, List, [], ◌∷◌, ◌++◌, take, drop, inl, inr, subst, sym}
+use Rattle.std.proofs.Common.{ℕ, List, [], ◌∷◌, ◌++◌, take, drop, inl, inr, subst}
 use Rattle.std.proofs.lemmas.List.{take-append-drop}
 use Rattle.bh_model.specs.Bodies.{IsIn, NoneTwice}
 use Rattle.bh_model.proofs.Lists.{in_left, none_twice-append}

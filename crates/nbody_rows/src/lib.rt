@@ -7,4 +7,6 @@ mod calls;
 #[cfg(test)]
 mod made;
 #[cfg(test)]
+mod regions;
+#[cfg(test)]
 mod runs;

@@ -1,4 +1,4 @@
-use Rattle.std.proofs.Common.{◌≡◌, ◌<◌, ◌≤◌, ℕ, List, [], ◌∷◌, ◌++◌, subst, sym, arith, length}
+use Rattle.std.proofs.Common.{◌≡◌, ◌<◌, subst, sym, arith, length}
 use Rattle.bh_model.specs.Bodies.{IsIn, NoneTwice}
 use Rattle.cell_pool.specs.Free.{Free}
 use Rattle.cell_pool.proofs.FreeFacts.{once_more}

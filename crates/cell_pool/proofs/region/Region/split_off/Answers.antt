@@ -1,4 +1,4 @@
-use Rattle.std.proofs.Common.{◌≡◌, ◌+◌, ◌-◌, ◌≤◌, List, ℕ, subst, sym, arith, length, ap, vec_capacity, Vec, Global}
+use Rattle.std.proofs.Common.{◌≡◌, ◌-◌, ◌≤◌, ℕ, subst, sym, arith, length, ap, vec_capacity, Vec, Global}
 use Rattle.bh_model.specs.Bodies.{NoneTwice}
 use Rattle.cell_pool.specs.Free.{Free}
 use Rattle.cell_pool.proofs.FreeFacts.{once_drop, once_take}
@@ -12,9 +12,10 @@ invariant_of-result c =
     let tail = c.in-Ok.list in
     let few : c.args.n ≤ length f.list.items = subst (λ (y : Free). c.args.n ≤ length y.cells) (sym c.self.view_is) c.requires in
     let n : f.list.len ≡ length f.list.items = f.list.ok.0 in
-    let m : tail.len ≡ length tail.items = tail.ok.0 in
-    (record { once = subst NoneTwice (sym c.in-Ok.ensures.tail) (once_drop f.list.items (c.len.result - c.args.n) was.0.once); fits = omega (arith, few, c.len.ensures, c.in-Ok.ensures.tail_len, n, m) },
-    omega (arith, few, c.len.ensures, c.in-Ok.ensures.tail_len, n, m, tail.ok))
+    let m : tail.len ≡ length tail.items = tail.ok.0 in (
+      record { once = subst NoneTwice (sym c.in-Ok.ensures.tail) (once_drop f.list.items (c.len.result - c.args.n) was.0.once); fits = omega (arith, few, c.len.ensures, c.in-Ok.ensures.tail_len, n, m) },
+      omega (arith, few, c.len.ensures, c.in-Ok.ensures.tail_len, n, m, tail.ok),
+    )
 
 pub invariant_of-self : goal.invariant_of-self
 invariant_of-self c =

@@ -1,4 +1,4 @@
-use Rattle.std.proofs.Common.{◌≡◌, ◌∷◌, [], ◌++◌, ℕ, List, subst, arith, length}
+use Rattle.std.proofs.Common.{◌≡◌, ◌∷◌, [], subst, arith, length}
 use Rattle.bh_model.specs.Bodies.{NoneTwice}
 use Rattle.cell_pool.proofs.FreeFacts.{once_front}
 use Rattle.cell_pool.proofs.region.Region.take.Goals as goal

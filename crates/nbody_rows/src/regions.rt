@@ -1,0 +1,21 @@
+//! Regions of free cells.
+
+use cell_pool::Region;
+use octree::CellNo;
+use std::test::Fail;
+
+#[test]
+fn cells_are_taken_and_given_back_at_the_end(rt: HostRuntime) -> Result<(), Fail> {
+    let mut region = Region::of([4, 7, 9].to_vec(rt.alloc())?);
+    assert_eq!(rt; region.len(), 3);
+    assert_eq!(rt; region.take(), CellNo(9));
+    region.give(CellNo(2));
+    let mut tail = region.split_off(2)?;
+    assert_eq!(rt; tail.room(), 2);
+    assert_eq!(rt; region.room(), 3);
+    assert_eq!(rt; tail.take(), CellNo(2));
+    assert_eq!(rt; tail.take(), CellNo(7));
+    assert_eq!(rt; region.take(), CellNo(4));
+    assert!(rt; region.is_empty());
+    Ok(())
+}
