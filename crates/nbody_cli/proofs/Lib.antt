@@ -1,2 +1,3 @@
 mod LineFacts
+mod NumberFacts
 mod ServeFacts

@@ -23,9 +23,8 @@ AreLeft (Some left) bytes = left ≡ bytes
 -- the scene has a first fault of its own
 abbrev pub IsRefused : Result (List Body) SceneFault → Type 0
 IsRefused (Ok bodies) = ⊥
-IsRefused (Err fault.TooLong) = ⊤
-IsRefused (Err (fault.BadRecord number)) = ⊤
 IsRefused (Err fault.OutOfMemory) = ⊥
+IsRefused (Err told) = ⊤
 
 -- what each status says of the writing of a scene's text
 abbrev pub AnswersScene : (scene : Result (List Body) SceneFault) (wrote_before wrote : Option (List ℕ)) (faults_before faults : ℕ) → Status → Type 0

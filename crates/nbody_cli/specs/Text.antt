@@ -19,10 +19,24 @@ tree_of_bodies bodies = octree (site_at (sites_of bodies)) (numbers (length bodi
 abbrev pub tree_line : Tree → List ℕ
 tree_line tree = codes "tree " ++ (text tree ++ newline)
 
+-- numbers in decimal, each after a space
+unfoldable pub spaced : List ℕ → List ℕ
+spaced [] = []
+spaced (n ∷ more) = (32 ∷ decimal n) ++ spaced more
+
+-- the line of a fault by its words and its numbers
+abbrev pub fault_line : List ℕ → List ℕ → List ℕ
+fault_line words fault_numbers = words ++ (spaced fault_numbers ++ newline)
+
 -- the line of a scene's fault
 abbrev pub refused_line : SceneFault → List ℕ
-refused_line fault.TooLong = codes "refused too-long\n"
-refused_line (fault.BadRecord number) = codes "refused bad-record " ++ (decimal number ++ newline)
+refused_line fault.TooLong = fault_line (codes "refused too-long") []
+refused_line (fault.BadRecord record_number) = fault_line (codes "refused bad-record") (record_number ∷ [])
+refused_line (fault.BadNumber record_number field) = fault_line (codes "refused bad-number") (record_number ∷ field ∷ [])
+refused_line (fault.OutOfRange record_number field) = fault_line (codes "refused out-of-range") (record_number ∷ field ∷ [])
+refused_line (fault.TooMany record_number) = fault_line (codes "refused too-many") (record_number ∷ [])
+refused_line (fault.MassTotal record_number) = fault_line (codes "refused mass-total") (record_number ∷ [])
+refused_line (fault.Coincident record_number earlier later) = fault_line (codes "refused coincident") (record_number ∷ earlier ∷ later ∷ [])
 refused_line fault.OutOfMemory = []
 
 -- the line that tells how the program is called

@@ -70,6 +70,22 @@ fn a_record_cut_in_the_middle_is_refused(rt: HostRuntime) -> Result<(), Fail> {
 }
 
 #[test]
+fn a_third_body_at_the_first_ones_point_is_refused(rt: HostRuntime) -> Result<(), Fail> {
+    let (status, text) = tree_of(&rt, b"body,1,0,0,0\nbody,1,1,0,0\nbody,1,0,0,0\n")?;
+    assert_eq!(rt; status, Status::Scene);
+    assert_eq!(rt; text.as_slice(), b"refused coincident 3 0 2\n".as_slice());
+    Ok(())
+}
+
+#[test]
+fn a_field_that_is_no_number_comes_before_a_mass_of_zero(rt: HostRuntime) -> Result<(), Fail> {
+    let (status, text) = tree_of(&rt, b"body,0,x,0,0\n")?;
+    assert_eq!(rt; status, Status::Scene);
+    assert_eq!(rt; text.as_slice(), b"refused bad-number 1 3\n".as_slice());
+    Ok(())
+}
+
+#[test]
 fn the_last_record_needs_no_newline(rt: HostRuntime) -> Result<(), Fail> {
     let (status, text) = tree_of(&rt, b"body,1,0,0,0\nbody,1,1048576,0,0")?;
     assert_eq!(rt; status, Status::Done);

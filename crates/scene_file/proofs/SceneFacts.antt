@@ -41,4 +41,9 @@ refused_at all rows more fields bodies number f whole e count w =
 pub fault_is : (f : SceneFault) (step wanted : Result (List Body) SceneFault) → IsFaultOf step f → (step ≡ Err f → wanted ≡ Err f) → IsFaultOf wanted f
 fault_is fault.TooLong step wanted h k = k h
 fault_is (fault.BadRecord n) step wanted h k = k h
+fault_is (fault.BadNumber n field) step wanted h k = k h
+fault_is (fault.OutOfRange n field) step wanted h k = k h
+fault_is (fault.TooMany n) step wanted h k = k h
+fault_is (fault.MassTotal n) step wanted h k = k h
+fault_is (fault.Coincident n earlier later) step wanted h k = k h
 fault_is fault.OutOfMemory step wanted h k = tt

@@ -1,3 +1,4 @@
 pub mod Bodies
 pub mod Scene
 pub mod Gathering
+pub mod Text

@@ -62,14 +62,15 @@ impl Gathering {
         ensures { Adds self.old self.new (joined number self.old body.now) result }
     {
         if self.list.len() >= MOST_BODIES {
-            return Err(SceneFault::BadRecord(number));
+            return Err(SceneFault::TooMany(number));
         }
         let total = self.total + u64::from(body.mass);
         if total >= MASS_BOUND {
-            return Err(SceneFault::BadRecord(number));
+            return Err(SceneFault::MassTotal(number));
         }
-        if self.numbers.get(&body.at).is_some() {
-            return Err(SceneFault::BadRecord(number));
+        if let Some(earlier) = self.numbers.get(&body.at) {
+            let later = self.list.len() as u32;
+            return Err(SceneFault::Coincident(number, *earlier, later));
         }
         self.keep(total, body)
     }

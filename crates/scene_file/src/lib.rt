@@ -1,4 +1,4 @@
-//! Scenes of bodies, and the reading of their files.
+//! Scenes of bodies, and the reading and writing of their files.
 #![tactic(auto)]
 
 mod bodies;
@@ -6,10 +6,12 @@ mod fault;
 mod gathering;
 mod record;
 mod scene;
+mod text;
 
 pub use bodies::{Bodies, Body};
 pub use fault::SceneFault;
 pub use scene::{Scene, read_scene};
+pub use text::scene_text;
 
 #[cfg(test)]
 mod tests;

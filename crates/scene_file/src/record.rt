@@ -1,8 +1,8 @@
 //! The body of one record.
 
-ghost use Rattle.std.specs.Prelude.{◌≡◌, ◌≤◌, IfOk};
+ghost use Rattle.std.specs.Prelude.{◌≡◌, ◌<◌, ◌≤◌, IfOk};
 ghost use Rattle.csv.specs.Records.{fields_of};
-ghost use Rattle.scene_file.specs.Scene.{Adds, body_from, body_of, field_number, is_body, with_record};
+ghost use Rattle.scene_file.specs.Scene.{Adds, body_at_fields, body_from, body_of, field_number, is_body, is_no_number, with_record};
 
 use crate::bodies::Body;
 use crate::fault::SceneFault;
@@ -29,7 +29,49 @@ fn is_body(row: &ByteRecord) -> bool
     row.len() == 5 && row.get(0).unwrap_or(b"") == b"body".as_slice()
 }
 
-// The body that a record's numbers give.
+// Whether a field isn't written in digits.
+fn is_no_number(field: Result<u64, NumberFault>) -> bool
+    ensures { result ≡ is_no_number field }
+{
+    match field {
+        Err(NumberFault::NotDigits) => true,
+        _ => false,
+    }
+}
+
+// The body of a mass and of the fields 3 to 5.
+fn body_at_fields(
+    number: u32,
+    mass: u32,
+    x: Result<u64, NumberFault>,
+    y: Result<u64, NumberFault>,
+    z: Result<u64, NumberFault>,
+) -> Result<Body, SceneFault>
+    requires x { IfOk x (λ n. n ≤ 2097151) }
+    requires y { IfOk y (λ n. n ≤ 2097151) }
+    requires z { IfOk z (λ n. n ≤ 2097151) }
+    requires massive { 0 < mass }
+    ensures value { result ≡ body_at_fields number mass x y z }
+    ensures massive { IfOk result (λ body. 0 < body.mass) }
+{
+    let Ok(x) = x else {
+        return Err(SceneFault::OutOfRange(number, 3));
+    };
+    let Ok(y) = y else {
+        return Err(SceneFault::OutOfRange(number, 4));
+    };
+    let Ok(z) = z else {
+        return Err(SceneFault::OutOfRange(number, 5));
+    };
+    let at = Point {
+        x: x as u32,
+        y: y as u32,
+        z: z as u32,
+    };
+    Ok(Body { mass, at })
+}
+
+// The body that the fields 2 to 5 give. Which fields are numbers is asked before any range.
 fn body_from(
     number: u32,
     mass: Result<u64, NumberFault>,
@@ -41,28 +83,31 @@ fn body_from(
     requires x { IfOk x (λ n. n ≤ 2097151) }
     requires y { IfOk y (λ n. n ≤ 2097151) }
     requires z { IfOk z (λ n. n ≤ 2097151) }
-    ensures { result ≡ body_from number mass x y z }
+    ensures value { result ≡ body_from number mass x y z }
+    ensures massive { IfOk result (λ body. 0 < body.mass) }
 {
-    let (Ok(mass), Ok(x), Ok(y), Ok(z)) = (mass, x, y, z) else {
-        return Err(SceneFault::BadRecord(number));
-    };
-    if mass == 0 {
-        return Err(SceneFault::BadRecord(number));
+    if is_no_number(mass) {
+        return Err(SceneFault::BadNumber(number, 2));
     }
-    let at = Point {
-        x: x as u32,
-        y: y as u32,
-        z: z as u32,
-    };
-    Ok(Body {
-        mass: mass as u32,
-        at,
-    })
+    if is_no_number(x) {
+        return Err(SceneFault::BadNumber(number, 3));
+    }
+    if is_no_number(y) {
+        return Err(SceneFault::BadNumber(number, 4));
+    }
+    if is_no_number(z) {
+        return Err(SceneFault::BadNumber(number, 5));
+    }
+    match mass {
+        Ok(mass) if mass > 0 => body_at_fields(number, mass as u32, x, y, z),
+        _ => Err(SceneFault::OutOfRange(number, 2)),
+    }
 }
 
 // The body of a record, whose number is told.
 fn read_body(number: u32, row: &ByteRecord) -> Result<Body, SceneFault>
-    ensures { result ≡ body_of number (fields_of row.now) }
+    ensures value { result ≡ body_of number (fields_of row.now) }
+    ensures massive { IfOk result (λ body. 0 < body.mass) }
 {
     if !is_body(row) {
         return Err(SceneFault::BadRecord(number));

@@ -43,3 +43,17 @@ fn points_are_those_of_the_bodies(rt: HostRuntime) {
         assert!(rt; Point::new(1_048_576, 0, 0) == Some(points.at(1)));
     }
 }
+
+#[test]
+fn the_text_of_a_scene_has_its_bodies(rt: HostRuntime) {
+    let text = b"body,007,0,2,3\r\n\n\"bo\"dy,4294967295,2097151,0,1";
+    let scene = read_scene(rt.alloc(), text).expect(&rt, "a scene");
+    let written = scene_text(rt.alloc(), &scene).expect(&rt, "a text");
+    assert_eq!(rt;
+        written.as_slice(),
+        b"body,7,0,2,3\nbody,4294967295,2097151,0,1\n".as_slice()
+    );
+    let again = read_scene(rt.alloc(), &written).expect(&rt, "a scene");
+    assert_eq!(rt; again.bodies.len(), 2);
+    assert!(rt; is_body(&again.bodies, 1, 4_294_967_295, 2_097_151, 0, 1));
+}

@@ -1,0 +1,6 @@
+use Rattle.std.proofs.Common.{◌≡◌, take}
+use Rattle.scene_file.specs.Text.{text_of_scene}
+use Rattle.scene_file.proofs.text.scene_text.Given as goal
+
+abbrev pub invariant-loop-n : goal.invariant-loop-n
+invariant-loop-n l = l.text.items ≡ text_of_scene (take l.n l.scene.bodies)
