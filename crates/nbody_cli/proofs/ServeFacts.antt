@@ -9,7 +9,7 @@ use Rattle.scene_file.specs.Scene.{scene_of}
 use Rattle.scene_file.specs.declared.bodies.Body.{Body}
 use Rattle.scene_file.specs.declared.fault.SceneFault.{SceneFault}
 use Rattle.scene_file.specs.declared.fault.SceneFault.TheVariants as fault
-use Rattle.nbody_cli.specs.Text.{refused_line, scene_text, usage_line}
+use Rattle.nbody_cli.specs.Text.{refused_line, answer_text, usage_line}
 use Rattle.nbody_cli.specs.Serving.{AreLeft, Serves, asked_text}
 use Rattle.nbody_cli.specs.declared.status.Status.TheVariants as status
 
@@ -24,7 +24,7 @@ are_left None other = tt
 are_left (Some xs) other = refl
 
 -- where the tree is asked for, the text is the scene's
-asked_some : (asked : Bool) (scene : Result (List Body) SceneFault) → IsTrue asked → asked_text asked scene ≡ scene_text scene
+asked_some : (asked : Bool) (scene : Result (List Body) SceneFault) → IsTrue asked → asked_text asked scene ≡ answer_text scene
 asked_some true scene some = refl
 asked_some false scene some = cc
 

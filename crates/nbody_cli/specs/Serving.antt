@@ -6,13 +6,13 @@ use Rattle.scene_file.specs.Scene.{scene_of}
 use Rattle.scene_file.specs.declared.bodies.Body.{Body}
 use Rattle.scene_file.specs.declared.fault.SceneFault.{SceneFault}
 use Rattle.scene_file.specs.declared.fault.SceneFault.TheVariants as fault
-use Rattle.nbody_cli.specs.Text.{scene_text, usage_line}
+use Rattle.nbody_cli.specs.Text.{answer_text, usage_line}
 use Rattle.nbody_cli.specs.declared.status.Status.{Status}
 use Rattle.nbody_cli.specs.declared.status.Status.TheVariants as status
 
 -- the text that the words and the scene ask for
 abbrev pub asked_text : Bool → Result (List Body) SceneFault → List ℕ
-asked_text true scene = scene_text scene
+asked_text true scene = answer_text scene
 asked_text false scene = usage_line
 
 -- the bytes are those that the source told, where it tells any
@@ -28,11 +28,11 @@ IsRefused (Err told) = ⊤
 
 -- what each status says of the writing of a scene's text
 abbrev pub AnswersScene : (scene : Result (List Body) SceneFault) (wrote_before wrote : Option (List ℕ)) (faults_before faults : ℕ) → Status → Type 0
-AnswersScene scene wb w fb f status.Done = IsOk scene × Took wb w (scene_text scene)
+AnswersScene scene wb w fb f status.Done = IsOk scene × Took wb w (answer_text scene)
 AnswersScene scene wb w fb f status.Usage = ⊥
 AnswersScene scene wb w fb f status.Read = ⊥
-AnswersScene scene wb w fb f status.Write = Rose fb f × TookPrefix wb w (scene_text scene)
-AnswersScene scene wb w fb f status.Scene = IsRefused scene × Took wb w (scene_text scene)
+AnswersScene scene wb w fb f status.Write = Rose fb f × TookPrefix wb w (answer_text scene)
+AnswersScene scene wb w fb f status.Scene = IsRefused scene × Took wb w (answer_text scene)
 AnswersScene scene wb w fb f status.Memory = Took wb w []
 
 -- what each status says of a run

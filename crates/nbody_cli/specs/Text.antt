@@ -44,6 +44,6 @@ abbrev pub usage_line : List ℕ
 usage_line = codes "usage: nbody tree|passes|run|trial [--builder orig|local|update|partree|space] [--workers N] [--steps N] [--theta T/Q] [--eps2 N] [--g N] [--probe NAME] [--count N] [--seed N] [--shape uniform|corner]\n"
 
 -- the text of a scene: the line of its bodies' canonical octree, or of its first fault
-abbrev pub scene_text : Result (List Body) SceneFault → List ℕ
-scene_text (Ok bodies) = tree_line (tree_of_bodies bodies)
-scene_text (Err f) = refused_line f
+abbrev pub answer_text : Result (List Body) SceneFault → List ℕ
+answer_text (Ok bodies) = tree_line (tree_of_bodies bodies)
+answer_text (Err f) = refused_line f

@@ -14,11 +14,8 @@ use crate::words::asks_for_tree;
 use bh_outside::{Input, ReadAllFault, Sink, Source, read_all};
 use octant_code::OutOfMemory;
 use octree::Octree;
-use scene_file::{Bodies, SceneFault, read_scene};
+use scene_file::{Bodies, MOST_BYTES, SceneFault, read_scene};
 use std::alloc::Global;
-
-/// How many bytes a scene may have.
-const MOST_BYTES: usize = 16_777_216;
 
 /// The canonical octree of bodies.
 fn tree_of_bodies(alloc: Global, bodies: &Bodies) -> Result<Octree, OutOfMemory>

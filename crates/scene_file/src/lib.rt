@@ -10,7 +10,7 @@ mod text;
 
 pub use bodies::{Bodies, Body};
 pub use fault::SceneFault;
-pub use scene::{Scene, read_scene};
+pub use scene::{MOST_BYTES, Scene, read_scene};
 pub use text::scene_text;
 
 #[cfg(test)]

@@ -17,7 +17,8 @@ pub struct Scene {
     pub bodies: Bodies,
 }
 
-const MOST_BYTES: usize = 16_777_216;
+/// How many bytes a scene may have.
+pub const MOST_BYTES: usize = 16_777_216;
 
 // The bytes of a body's record whose numbers have one digit each, with its line end, which the last
 // record may lack. Room is taken for as many bodies as the bytes can have at most, so that nothing
