@@ -1,7 +1,7 @@
--- What the canonical octree, the order and the text are, case by case.
-use Rattle.std.proofs.Common.{ℕ, ◌+◌, ◌*◌, ◌<◌, ◌≡◌, zero, suc, refl, sym, subst, arith, List, [], ◌∷◌, ◌++◌, decimal}
+-- What the canonical octree, the order, the depth and the text are, case by case.
+use Rattle.std.proofs.Common.{ℕ, ◌+◌, ◌*◌, ◌<◌, ◌≡◌, zero, suc, max, refl, sym, subst, arith, List, [], ◌∷◌, ◌++◌, decimal}
 use Rattle.octant_code.specs.Space.{Site}
-use Rattle.bh_model.specs.Trees.{Tree, Empty, Body, cell_of, in_octant, octree_from, order, text, cell_keys_from}
+use Rattle.bh_model.specs.Trees.{Tree, Empty, Body, cell_of, in_octant, octree_from, order, text, cell_keys_from, body_levels_from, greatest}
 use Rattle.bh_model.proofs.Lists.{HasTwo, joined}
 
 -- the octree of no body
@@ -51,6 +51,26 @@ order-body n = refl
 pub order-cell : (f : ℕ → Tree) → order (cell_of f) ≡ joined (λ k. order (f k)) 8
 unfolding order
 order-cell f = refl
+
+-- an empty tree names no body
+pub levels-empty : (level : ℕ) → body_levels_from Empty level ≡ []
+unfolding body_levels_from
+levels-empty level = refl
+
+-- a body is named at the level of its word
+pub levels-body : (n level : ℕ) → body_levels_from (Body n) level ≡ level ∷ []
+unfolding body_levels_from
+levels-body n level = refl
+
+-- the bodies of a cell are named one level below it
+pub levels-cell : (f : ℕ → Tree) (level : ℕ) → body_levels_from (cell_of f) level ≡ joined (λ k. body_levels_from (f k) (suc level)) 8
+unfolding body_levels_from
+levels-cell f level = refl
+
+-- the greatest of two lists in turn is the greater of both
+pub greatest-append : (xs ys : List ℕ) → greatest (xs ++ ys) ≡ max (greatest xs) (greatest ys)
+greatest-append [] ys = omega arith
+greatest-append (x ∷ xs) ys = omega (arith, greatest-append xs ys)
 
 -- the text of an empty tree
 pub text-empty : text Empty ≡ 46 ∷ []

@@ -1,5 +1,5 @@
--- Octrees of bodies, the canonical octree of a list of bodies, and the order and the text of a tree.
-use Rattle.std.specs.Prelude.{ℕ, ◌+◌, ◌*◌, zero, suc, eqb, List, [], ◌∷◌, ◌++◌, filter, decimal}
+-- Octrees of bodies, the canonical octree of a list of bodies, and the order, the depth and the text of a tree.
+use Rattle.std.specs.Prelude.{ℕ, ◌+◌, ◌*◌, zero, suc, max, eqb, List, [], ◌∷◌, ◌++◌, filter, decimal}
 use Rattle.octant_code.specs.Space.{Site, octant_of}
 use Rattle.bh_model.specs.Bodies.{IsIn}
 
@@ -46,6 +46,23 @@ unfoldable pub order : Tree → List ℕ
 order Empty = []
 order (Body n) = n ∷ []
 order (Cell a b c d e f g h) = order a ++ order b ++ order c ++ order d ++ order e ++ order f ++ order g ++ order h
+
+-- the levels of the words of a tree that name a body, one for each, where the tree's own word is of a level
+unfoldable pub body_levels_from : Tree → ℕ → List ℕ
+body_levels_from Empty level = []
+body_levels_from (Body n) level = level ∷ []
+body_levels_from (Cell a b c d e f g h) level =
+    body_levels_from a (suc level) ++ body_levels_from b (suc level) ++ body_levels_from c (suc level) ++ body_levels_from d (suc level)
+    ++ body_levels_from e (suc level) ++ body_levels_from f (suc level) ++ body_levels_from g (suc level) ++ body_levels_from h (suc level)
+
+-- the greatest number of a list, 0 for none
+abbrev pub greatest : List ℕ → ℕ
+greatest [] = 0
+greatest (n ∷ rest) = max n (greatest rest)
+
+-- the depth of a tree: the greatest level of a word that names a body, counted from the tree's own word
+abbrev pub depth : Tree → ℕ
+depth tree = greatest (body_levels_from tree 0)
 
 -- the text of a tree: `.` for none, `b` and the number for a body, and the children between brackets for a cell
 unfoldable pub text : Tree → List ℕ

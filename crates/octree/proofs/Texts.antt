@@ -1,11 +1,11 @@
 -- The text of a word's tree, in pieces.
-use Rattle.std.proofs.Common.{ℕ, ◌+◌, ◌-◌, ◌*◌, ◌/◌, ◌%◌, ◌<◌, ◌≡◌, ◌≢◌, zero, suc, refl, sym, ◌∙◌, ap, subst, arith, List, [], ◌∷◌, ◌++◌, decimal, inl, inr, add-one, append_assoc, append-nil, length, slice_index_or}
+use Rattle.std.proofs.Common.{ℕ, ◌+◌, ◌-◌, ◌*◌, ◌/◌, ◌%◌, ◌<◌, ◌≤◌, ◌≡◌, ◌≢◌, zero, suc, refl, sym, ◌∙◌, ap, subst, arith, List, [], ◌∷◌, ◌++◌, decimal, inl, inr, add-one, append_assoc, append-nil, length, slice_index_or}
 use Rattle.std.proofs.lemmas.List.{get_or_read}
 use Rattle.bh_model.proofs.Lists.{joined}
 use Rattle.bh_model.proofs.Trees.{text-body, text-cell, text-empty}
 use Rattle.bh_model.specs.Trees.{Empty, Tree, text}
 use Rattle.tree_rule.proofs.Canonical.{tree-body, tree-cell, tree-empty}
-use Rattle.tree_rule.specs.Words.{HasCell, IsReached, at_of, body_word, cell_word, child_place, tree_from}
+use Rattle.tree_rule.specs.Words.{Below, HasCell, IsReached, at_of, body_word, cell_word, child_place, tree_from}
 use Rattle.std.proofs.lemmas.Bool.{cases_lt}
 
 -- read to no depth every word is empty
@@ -50,6 +50,16 @@ pub has_cell : (words : List ℕ) (w : ℕ) → IsReached (at_of words) (at_of w
 has_cell words w r some even =
     let e : w ≡ cell_word (w / 2 - 1) = omega arith in
     subst (λ (y : ℕ). IsReached (at_of words) (at_of words 0) y) e r
+
+-- a word that names a cell has the cell's words in the list
+pub cell_room : (words : List ℕ) (w : ℕ) → ((c : ℕ) → HasCell words c → 3 + 10 * (c + 1) ≤ length words) → IsReached (at_of words) (at_of words 0) w → w ≢ 0 → w % 2 ≢ 1
+    → 3 + 10 * (w / 2 - 1 + 1) ≤ length words
+cell_room words w room r some even = room (w / 2 - 1) (has_cell words w r some even)
+
+-- the word of a child is reached
+pub child_reached : (words : List ℕ) (w k x : ℕ) → IsReached (at_of words) (at_of words 0) w → w ≢ 0 → w % 2 ≢ 1 → k < 8 → x ≡ at_of words (child_place (w / 2 - 1) k)
+    → IsReached (at_of words) (at_of words 0) x
+child_reached words w k x r some even l e = Below (w / 2 - 1) k x (has_cell words w r some even) l e
 
 -- the word of a child
 pub child_is : (words : List ℕ) (w k x : ℕ) → 3 + 10 * (w / 2 - 1) + k < length words → x ≡ slice_index_or words (3 + 10 * (w / 2 - 1) + k) x → x ≡ at_of words (child_place (w / 2 - 1) k)

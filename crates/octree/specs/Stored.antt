@@ -3,7 +3,7 @@ use Rattle.std.specs.Prelude.{ℕ, ◌+◌, ◌-◌, ◌*◌, ◌^◌, ◌<◌, 
 use Rattle.octant_code.specs.Space.{Site}
 use Rattle.octant_code.specs.Points.{site_at}
 use Rattle.bh_model.specs.Trees.{Tree}
-use Rattle.tree_rule.specs.Words.{at_of, key_place, tree_from, HasCell, HasBody}
+use Rattle.tree_rule.specs.Words.{at_of, cells_from, key_place, tree_from, HasCell, HasBody}
 use Rattle.tree_rule.specs.Flat.{StandsFor}
 use Rattle.tree_rule.specs.Sound.{IsSound, BodiesUnder}
 
@@ -26,6 +26,10 @@ root_word o = at_of o.words 0
 -- the tree of an octree
 abbrev pub tree_of : Stored → Tree
 tree_of o = tree_from (at_of o.words) 22 (at_of o.words 0)
+
+-- the cells of an octree that can be reached, each before those below it
+abbrev pub cells_of : Stored → List ℕ
+cells_of o = cells_from (at_of o.words) 22 (at_of o.words 0)
 
 -- the words stand for the bodies that are read in them, at the sites of a list
 abbrev pub StandsWell : List Site → List ℕ → ℕ → Type 0

@@ -1,10 +1,14 @@
-//! Octrees of numbered bodies in words: insertion one body at a time, and the text of a tree.
+//! Octrees of numbered bodies in words: insertion one body at a time, and the cells, the depth, the
+//! order and the text of a tree.
 #![tactic(auto)]
 
 mod chain;
+mod count;
+mod depth;
 mod descend;
 mod node;
 mod octree;
+mod order;
 mod text;
 
 pub use node::{CellNo, Node};

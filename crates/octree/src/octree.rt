@@ -1,8 +1,11 @@
 //! The octree of bodies.
 
 use crate::chain::{Cube, part_two};
+use crate::count::count_cells;
+use crate::depth::deepest_body;
 use crate::descend::find_place;
 use crate::node::{CellNo, Node, node_of};
+use crate::order::push_order;
 use crate::text::put_word;
 use bh_outside::{Failed, Piece, Sink};
 use octant_code::{OutOfMemory, Points, key_at};
@@ -49,12 +52,12 @@ impl Octree {
     ghost use Rattle.octant_code.specs.Space.{Site, IsUnder};
     ghost use Rattle.octant_code.specs.Points.{site_at};
     ghost use Rattle.bh_model.specs.Bodies.{IsIn, NoneTwice, numbers};
-    ghost use Rattle.bh_model.specs.Trees.{octree, text};
+    ghost use Rattle.bh_model.specs.Trees.{depth, octree, order, text};
     ghost use Rattle.bh_outside.specs.Outside.{HasCause, Writes};
     ghost use Rattle.bh_outside.specs.Text.{Puts};
     ghost use Rattle.tree_rule.specs.Words.{at_of, child_place, HasBody, HasCell};
     ghost use Rattle.octree.specs.Node.{IsNodeOf};
-    ghost use Rattle.octree.specs.Stored.{IsCanonical, IsInserted, IsRoomier, root_word, spare_of, tree_of};
+    ghost use Rattle.octree.specs.Stored.{IsCanonical, IsInserted, IsRoomier, cells_of, root_word, spare_of, tree_of};
 
     /// The empty tree of the whole cube, with spare cells: at most 1,376,256.
     pub fn empty(alloc: Global, cells: u32) -> Result<Octree, OutOfMemory>
@@ -174,6 +177,30 @@ impl Octree {
         }
         tree.canonical_tree(points);
         Ok(tree)
+    }
+
+    /// How many cells can be reached.
+    pub fn cells(&self) -> u32
+        ensures { result ≡ length (cells_of self.now) }
+    {
+        count_cells(&self.words, self.words[0], 22, 0)
+    }
+
+    /// The greatest level of a word that names a body, counted from the root's word, which is of level
+    /// 0; and 0 where the tree has no body.
+    pub fn depth(&self) -> u32
+        ensures { result ≡ depth (tree_of self.now) }
+    {
+        deepest_body(&self.words, self.words[0], 22)
+    }
+
+    /// The bodies in tree order: those of child 0 first, then those of child 1, and so on.
+    pub fn order(&self, alloc: Global) -> Result<Vec<u32>, OutOfMemory>
+        ensures { IfOk result (λ v. v.items ≡ order (tree_of self.now)) }
+    {
+        let mut bodies = Vec::new(alloc);
+        push_order(&self.words, self.words[0], 22, &mut bodies)?;
+        Ok(bodies)
     }
 
     /// Puts the text of the tree behind the bytes that wait in a piece. It takes no memory.
