@@ -1,6 +1,6 @@
 -- The sites of the cube that have one key at the deepest level are one.
-use Rattle.std.proofs.Common.{ℕ, ◌+◌, ◌-◌, ◌*◌, ◌/◌, ◌%◌, ◌^◌, ◌<◌, ◌≤◌, ◌≡◌, zero, suc, refl, sym, ◌∙◌, ap, subst, arith}
-use Rattle.std.proofs.Math.Nat.{div-div-eq-div-mul, pow-suc, pow-zero}
+use Rattle.std.proofs.Common.{ℕ, ◌+◌, ◌-◌, ◌*◌, ◌/◌, ◌^◌, ◌<◌, ◌≤◌, ◌≡◌, zero, suc, sym, ◌∙◌, ap, arith}
+use Rattle.std.proofs.Math.Nat.{div-div-eq-div-mul, pow-suc}
 use Rattle.octant_code.specs.Space.{Site, IsInCube, octant_of, bit_at, key_of}
 use Rattle.octant_code.proofs.Keys.{key-suc, octant-bits, octant-small, same_parent, same_child}
 

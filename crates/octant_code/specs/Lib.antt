@@ -2,3 +2,4 @@ pub mod Space
 pub mod Points
 pub mod Distinct
 pub mod Decimal
+pub mod Numbers

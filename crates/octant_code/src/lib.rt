@@ -1,14 +1,17 @@
-//! Points of the cube, octants and the keys of cubes, lists of distinct points, and decimal numbers.
+//! Points of the cube, octants and the keys of cubes, lists of distinct points, decimal numbers, and
+//! exact square roots and quotients.
 #![tactic(auto)]
 
 mod decimal;
 mod memory;
+mod numbers;
 mod point;
 mod points;
 mod space;
 
 pub use decimal::{NumberFault, read_decimal};
 pub use memory::OutOfMemory;
+pub use numbers::{isqrt, trunc_div};
 pub use point::Point;
 pub use points::{Distinct, Points};
 pub use space::{key_at, octant};

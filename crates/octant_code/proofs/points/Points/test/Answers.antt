@@ -3,7 +3,7 @@ use Rattle.std.proofs.lemmas.List.{get_or_read}
 use Rattle.std.specs.HashMap as hash
 use Rattle.octant_code.specs.Space.{Site, origin, same_coordinates}
 use Rattle.octant_code.specs.Points.{site_at}
-use Rattle.octant_code.proofs.SeenPoints.{HasSeen, seen_more, seen_again, same_coordinates_refl, same_coordinates_true}
+use Rattle.octant_code.proofs.SeenPoints.{seen_more, seen_again, same_coordinates_refl, same_coordinates_true}
 use Rattle.octant_code.proofs.points.Points.test.Goals as goal
 
 pub returns-in-Some : goal.returns-in-Some
