@@ -20,7 +20,7 @@ both true b e = (refl, e)
 both false b e = cc
 
 -- points that are found to be one are one
-same_coordinates-true : (a b : Site) → same_coordinates a b ≡ true → a ≡ b
+pub same_coordinates-true : (a b : Site) → same_coordinates a b ≡ true → a ≡ b
 same_coordinates-true a b e =
     let front = both (nat_eq a.x b.x) (nat_eq a.y b.y && nat_eq a.z b.z) e in
     let halves = both (nat_eq a.y b.y) (nat_eq a.z b.z) front.1 in

@@ -1,3 +1,4 @@
 pub mod BodyFacts
+pub mod ReadBack
 pub mod RecordFacts
 pub mod SceneFacts

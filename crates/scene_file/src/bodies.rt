@@ -34,6 +34,7 @@ impl Model for Bodies {
 
 impl Bodies {
     ghost use Rattle.std.specs.Prelude.{◌≡◌, ◌<◌, IfOk, length};
+    ghost use Rattle.octant_code.specs.Space.{IsInCube};
     ghost use Rattle.scene_file.specs.Bodies.{AreBodies, body_at, sites_of};
 
     // The bodies of a list that keeps the rule.
@@ -52,12 +53,15 @@ impl Bodies {
         self.list.len() as u32
     }
 
-    /// The body of a number.
+    /// The body of a number, whose point lies in the cube.
     pub fn get(&self, n: u32) -> Body
         requires { n < length self.now }
-        ensures { result ≡ body_at self.now n }
+        ensures value { result ≡ body_at self.now n }
+        ensures inside { IsInCube result.at }
     {
-        self.list[n as usize]
+        let body = self.list[n as usize];
+        let _x = body.at.x;
+        body
     }
 
     /// The bodies' points, in the order of the bodies' numbers.

@@ -1,6 +1,7 @@
 //! The text of a scene.
 
-ghost use Rattle.std.specs.Prelude.{◌≡◌, ◌∷◌, ◌++◌, IfOk, OnOk, decimal};
+ghost use Rattle.std.specs.Prelude.{◌≡◌, ◌∷◌, ◌++◌, IfOk, Ok, OnOk, decimal};
+ghost use Rattle.scene_file.specs.Scene.{scene_of};
 ghost use Rattle.scene_file.specs.Text.{body_text, text_of_scene};
 
 use crate::bodies::Body;
@@ -41,9 +42,10 @@ fn push_body(text: &mut Vec<u8>, body: &Body) -> Result<(), OutOfMemory>
 }
 
 /// The text of a scene: the records of its bodies in the order of their numbers, each with its line
-/// end, and numbers without leading zeros.
+/// end, and numbers without leading zeros. It is read as the same scene.
 pub fn scene_text(alloc: Global, scene: &Scene) -> Result<Vec<u8>, OutOfMemory>
-    ensures { IfOk result (λ text. text.items ≡ text_of_scene scene.now.bodies) }
+    ensures value { IfOk result (λ text. text.items ≡ text_of_scene scene.now.bodies) }
+    ensures read_back { IfOk result (λ text. scene_of text.items ≡ Ok scene.now.bodies) }
 {
     let mut text = Vec::new(alloc);
     for n in 0..scene.bodies.len() {
