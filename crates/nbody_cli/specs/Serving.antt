@@ -1,19 +1,20 @@
 -- What a run of the program answers, by what its source and its sink tell.
-use Rattle.std.specs.Prelude.{◌≡◌, ◌⊎◌, ℕ, Bool, true, false, List, [], Option, None, Some, Result, Ok, Err, IsOk, IsTrue, ⊤}
+use Rattle.std.specs.Prelude.{◌≡◌, ◌⊎◌, ℕ, List, [], Option, None, Some, Result, Ok, Err, IsOk, IsSome, ⊤}
 use Rattle.std.specs.Io.KnownBytes.{IsAtEnd}
 use Rattle.bh_outside.specs.Outside.{Rose, Took, TookPrefix}
 use Rattle.scene_file.specs.Scene.{scene_of}
 use Rattle.scene_file.specs.declared.bodies.Body.{Body}
 use Rattle.scene_file.specs.declared.fault.SceneFault.{SceneFault}
 use Rattle.scene_file.specs.declared.fault.SceneFault.TheVariants as fault
+use Rattle.nbody_words.specs.Choices.{Choices}
 use Rattle.nbody_cli.specs.Text.{answer_text, usage_line}
 use Rattle.nbody_cli.specs.declared.status.Status.{Status}
 use Rattle.nbody_cli.specs.declared.status.Status.TheVariants as status
 
--- the text that the words and the scene ask for
-abbrev pub asked_text : Bool → Result (List Body) SceneFault → List ℕ
-asked_text true scene = answer_text scene
-asked_text false scene = usage_line
+-- the text that the options of the words and the scene ask for
+abbrev pub asked_text : Option Choices → Result (List Body) SceneFault → List ℕ
+asked_text (Some options) scene = answer_text scene
+asked_text None scene = usage_line
 
 -- the bytes are those that the source told, where it tells any
 abbrev pub AreLeft : Option (List ℕ) → List ℕ → Type 0
@@ -36,22 +37,22 @@ AnswersScene scene wb w fb f status.Scene = IsRefused scene × Took wb w (answer
 AnswersScene scene wb w fb f status.Memory = Took wb w []
 
 -- what each status says of a run
-abbrev pub Answers : (asked : Bool) (scene : Result (List Body) SceneFault) (read_faults_before read_faults : ℕ) (left : Option (List ℕ)) (wrote_before wrote : Option (List ℕ)) (write_faults_before write_faults : ℕ)
+abbrev pub Answers : (options : Option Choices) (scene : Result (List Body) SceneFault) (read_faults_before read_faults : ℕ) (left : Option (List ℕ)) (wrote_before wrote : Option (List ℕ)) (write_faults_before write_faults : ℕ)
     → Status → Type 0
-Answers asked scene rb r left wb w fb f status.Done = IsTrue asked × IsOk scene × IsAtEnd left × Took wb w (asked_text asked scene)
-Answers asked scene rb r left wb w fb f status.Usage = (asked ≡ false) × Took wb w (asked_text asked scene)
-Answers asked scene rb r left wb w fb f status.Read = IsTrue asked × Rose rb r × Took wb w []
-Answers asked scene rb r left wb w fb f status.Write = Rose fb f × TookPrefix wb w (asked_text asked scene)
-Answers asked scene rb r left wb w fb f status.Scene = IsTrue asked × IsRefused scene × Took wb w (asked_text asked scene)
-Answers asked scene rb r left wb w fb f status.Memory = TookPrefix wb w (asked_text asked scene)
+Answers options scene rb r left wb w fb f status.Done = IsSome options × IsOk scene × IsAtEnd left × Took wb w (asked_text options scene)
+Answers options scene rb r left wb w fb f status.Usage = (options ≡ None) × Took wb w (asked_text options scene)
+Answers options scene rb r left wb w fb f status.Read = IsSome options × Rose rb r × Took wb w []
+Answers options scene rb r left wb w fb f status.Write = Rose fb f × TookPrefix wb w (asked_text options scene)
+Answers options scene rb r left wb w fb f status.Scene = IsSome options × IsRefused scene × Took wb w (asked_text options scene)
+Answers options scene rb r left wb w fb f status.Memory = TookPrefix wb w (asked_text options scene)
 
--- where the tree is asked for, the scene is accepted, and no read and no write failed, the run is done or memory ran out
-abbrev pub Completes : (asked : Bool) (scene : Result (List Body) SceneFault) (read_faults_before read_faults write_faults_before write_faults : ℕ) → Status → Type 0
-Completes asked scene rb r fb f answer = IsTrue asked → IsOk scene → (Rose rb r → ⊥) → (Rose fb f → ⊥) → (answer ≡ status.Done) ⊎ (answer ≡ status.Memory)
+-- where there are options, the scene is accepted, and no read and no write failed, the run is done or memory ran out
+abbrev pub Completes : (options : Option Choices) (scene : Result (List Body) SceneFault) (read_faults_before read_faults write_faults_before write_faults : ℕ) → Status → Type 0
+Completes options scene rb r fb f answer = IsSome options → IsOk scene → (Rose rb r → ⊥) → (Rose fb f → ⊥) → (answer ≡ status.Done) ⊎ (answer ≡ status.Memory)
 
 -- a run, for some list of bytes that is what the source told: at Done the text of the scene's canonical octree is what was written
-pub record Serves (asked : Bool) (left_before left : Option (List ℕ)) (read_faults_before read_faults : ℕ) (wrote_before wrote : Option (List ℕ)) (write_faults_before write_faults : ℕ) (answer : Status) : Type 0 where
+pub record Serves (options : Option Choices) (left_before left : Option (List ℕ)) (read_faults_before read_faults : ℕ) (wrote_before wrote : Option (List ℕ)) (write_faults_before write_faults : ℕ) (answer : Status) : Type 0 where
   pub bytes : List ℕ
   pub told : AreLeft left_before bytes
-  pub answers : Answers asked (scene_of bytes) read_faults_before read_faults left wrote_before wrote write_faults_before write_faults answer
-  pub complete : Completes asked (scene_of bytes) read_faults_before read_faults write_faults_before write_faults answer
+  pub answers : Answers options (scene_of bytes) read_faults_before read_faults left wrote_before wrote write_faults_before write_faults answer
+  pub complete : Completes options (scene_of bytes) read_faults_before read_faults write_faults_before write_faults answer

@@ -1,17 +1,17 @@
 //! The top call.
 
-ghost use Rattle.std.specs.Prelude.{◌≡◌, ◌≤◌, IfOk, false, map, string_bytes};
+ghost use Rattle.std.specs.Prelude.{◌≡◌, ◌≤◌, IfOk, None, map, string_bytes};
 ghost use Rattle.bh_outside.specs.Outside.{KeepsSure};
 ghost use Rattle.octree.specs.Stored.{tree_of};
 ghost use Rattle.scene_file.specs.Scene.{scene_of};
 ghost use Rattle.nbody_cli.specs.Serving.{AnswersScene, Serves};
 ghost use Rattle.nbody_cli.specs.Text.{tree_of_bodies};
-ghost use Rattle.nbody_cli.specs.Words.{asks_for_tree};
+ghost use Rattle.nbody_words.specs.Options.{options_of};
 
 use crate::status::Status;
 use crate::text::{write_refused, write_tree_line, write_usage};
-use crate::words::asks_for_tree;
 use bh_outside::{Input, ReadAllFault, Sink, Source, read_all};
+use nbody_words::{OptionsFault, read_options};
 use octant_code::OutOfMemory;
 use octree::Octree;
 use scene_file::{Bodies, MOST_BYTES, SceneFault, read_scene};
@@ -56,18 +56,23 @@ pub fn serve<R: AllocGlobal, S: Source, K: Sink>(
     source: &mut S,
     sink: &mut K,
 ) -> Status
-    ensures serves { Serves (asks_for_tree (map string_bytes words.now)) (S.left source.old) (S.left source.new) (S.faults source.old) (S.faults source.new)
+    ensures serves { Serves (options_of (map string_bytes words.now)) (S.left source.old) (S.left source.new) (S.faults source.old) (S.faults source.new)
         (K.written sink.old) (K.written sink.new) (K.faults sink.old) (K.faults sink.new) result }
     ensures sure { KeepsSure (S.sure source.old) (S.sure source.new) (S.faults source.old) (S.faults source.new) }
-    ensures untouched { asks_for_tree (map string_bytes words.now) ≡ false → source.new ≡ source.old }
+    ensures untouched { options_of (map string_bytes words.now) ≡ None → source.new ≡ source.old }
 {
-    if !asks_for_tree(words) {
-        return match write_usage(sink) {
-            Ok(()) => Status::Usage,
-            Err(_) => Status::Write,
-        };
-    }
     let alloc = rt.alloc();
+    match read_options(alloc, words) {
+        // The one command that is served is `tree`, and no option changes its text.
+        Ok(_) => {}
+        Err(OptionsFault::OutOfMemory) => return Status::Memory,
+        Err(OptionsFault::Usage) => {
+            return match write_usage(sink) {
+                Ok(()) => Status::Usage,
+                Err(_) => Status::Write,
+            };
+        }
+    }
     match read_all(alloc, source, MOST_BYTES) {
         Ok(Input::Whole(bytes)) => answer_scene(alloc, &bytes, sink),
         Ok(Input::TooLong) => match write_refused(sink, SceneFault::TooLong) {

@@ -1,8 +1,8 @@
 //! The calls that may want memory, with memory at hand, and numbers of single calls.
 
-use octant_code::{Distinct, Point, Points};
+use octant_code::{Distinct, NumberFault, Point, Points, isqrt, key_at, read_decimal, trunc_div};
 use octree::{Node, Octree};
-use scene_file::read_scene;
+use scene_file::{read_scene, scene_text};
 use std::alloc::Global;
 use std::test::Fail;
 
@@ -32,6 +32,16 @@ fn an_octree_grows_as_room_is_reserved(rt: HostRuntime) -> Result<(), Fail> {
     Ok(())
 }
 
+#[test]
+fn the_text_of_two_bodies_has_32_bytes(rt: HostRuntime) -> Result<(), Fail> {
+    let alloc = rt.alloc();
+    let text = b"body,1,0,0,0\nbody,1,1048576,0,0\n".as_slice();
+    let written = scene_text(alloc, &read_scene(alloc, text)?)?;
+    assert_eq!(rt; written.as_slice(), text);
+    assert_eq!(rt; written.len(), 32);
+    Ok(())
+}
+
 /// The octree of the bodies of a scene.
 fn octree_of(alloc: Global, scene: &[u8]) -> Result<Octree, Fail> {
     let points = read_scene(alloc, scene)?.bodies.points(alloc)?;
@@ -57,5 +67,31 @@ fn bodies_one_step_apart_in_z_are_parted_by_21_cells(rt: HostRuntime) -> Result<
 fn bodies_one_step_apart_in_z_are_21_deep(rt: HostRuntime) -> Result<(), Fail> {
     let tree = octree_of(rt.alloc(), b"body,1,0,0,0\nbody,1,0,0,1\n")?;
     assert_eq!(rt; tree.depth(), 21);
+    Ok(())
+}
+
+#[test]
+fn the_key_of_a_point_at_the_last_level(rt: HostRuntime) -> Result<(), Fail> {
+    assert_eq!(rt; key_at(point(0, 0, 1)?, 21), 9_223_372_036_854_775_809);
+    Ok(())
+}
+
+#[test]
+fn decimals_up_to_nine(rt: HostRuntime) -> Result<(), Fail> {
+    assert_eq!(rt; read_decimal(b"007", 9), Ok(7));
+    assert_eq!(rt; read_decimal(b"10", 9), Err(NumberFault::TooLarge));
+    assert_eq!(rt; read_decimal(b"", 9), Err(NumberFault::NotDigits));
+    Ok(())
+}
+
+#[test]
+fn a_root_between_two_squares(rt: HostRuntime) -> Result<(), Fail> {
+    assert_eq!(rt; isqrt(1_489_641_334), 38_595);
+    Ok(())
+}
+
+#[test]
+fn a_quotient_is_cut_towards_zero(rt: HostRuntime) -> Result<(), Fail> {
+    assert_eq!(rt; trunc_div(-7, 2), -3);
     Ok(())
 }

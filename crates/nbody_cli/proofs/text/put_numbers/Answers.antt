@@ -1,4 +1,4 @@
-use Rattle.std.proofs.Common.{◌+◌, ◌++◌, ◌∷◌, decimal, drop, get_or, take, arith, sym}
+use Rattle.std.proofs.Common.{◌+◌, ◌++◌, ◌∷◌, decimal, drop, get_or, take, arith}
 use Rattle.bh_outside.proofs.TextFacts.{puts_fail, puts_failed, puts_more, puts_none}
 use Rattle.nbody_cli.specs.Text.{spaced}
 use Rattle.nbody_cli.proofs.NumberFacts.{spaced_front, spaced_more}

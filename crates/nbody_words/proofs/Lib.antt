@@ -1,0 +1,3 @@
+pub mod ClapLine
+pub mod PlainFacts
+pub mod ReadFacts

@@ -1,0 +1,4 @@
+pub mod Plain
+pub mod Line
+pub mod Choices
+pub mod Options

@@ -1,0 +1,15 @@
+//! The words of the program's command line, and the options that they have.
+#![tactic(auto)]
+
+mod options;
+mod plain;
+mod read;
+mod values;
+
+pub use options::{
+    Builder, Command, Kind, Law, Made, Options, OptionsFault, Plan, ProbeChoice, Shape,
+};
+pub use read::read_options;
+
+#[cfg(test)]
+mod tests;

@@ -1,0 +1,92 @@
+// What no clause says: that the calls succeed where memory is ample.
+
+use super::*;
+use std::test::Fail;
+
+// What the words have.
+fn read(rt: &HostRuntime, texts: &[&str]) -> Result<Result<Options, OptionsFault>, Fail> {
+    let alloc = rt.alloc();
+    let mut words: Vec<String> = Vec::new(alloc);
+    for text in texts {
+        words.push(String::from_str(alloc, text)?)?;
+    }
+    Ok(read_options(alloc, &words))
+}
+
+// Whether the words have no options.
+fn is_usage(rt: &HostRuntime, texts: &[&str]) -> Result<bool, Fail> {
+    Ok(read(rt, texts)? == Err(OptionsFault::Usage))
+}
+
+#[test]
+fn options_have_their_values_and_defaults(rt: HostRuntime) -> Result<(), Fail> {
+    let words = &["--workers", "064", "tree", "--theta=3/2", "--seed", "7"];
+    let options = read(&rt, words)?.expect(&rt, "options");
+    assert_eq!(rt; options.command, Command::Tree);
+    assert_eq!(rt; options.plan.builder, Builder::Orig);
+    assert_eq!(rt; options.plan.workers, 64);
+    assert_eq!(rt; options.plan.law.theta_num, 3);
+    assert_eq!(rt; options.plan.law.theta_den, 2);
+    assert_eq!(rt; options.plan.law.eps2, 0);
+    assert_eq!(rt; options.plan.law.g, 4_294_967_296);
+    assert_eq!(rt; options.steps, 1);
+    assert_eq!(rt; options.probe, ProbeChoice::Nobody);
+    assert_eq!(rt; options.made.count, 1000);
+    assert_eq!(rt; options.made.seed, 7);
+    assert_eq!(rt; options.made.shape, Shape::Uniform);
+    Ok(())
+}
+
+#[test]
+fn values_that_break_their_rule_are_refused(rt: HostRuntime) -> Result<(), Fail> {
+    assert!(rt; is_usage(&rt, &["tree", "--workers", "65"])?);
+    assert!(rt; is_usage(&rt, &["tree", "--workers", "0"])?);
+    assert!(rt; is_usage(&rt, &["tree", "--theta", "1"])?);
+    assert!(rt; is_usage(&rt, &["tree", "--theta", "1/0"])?);
+    assert!(rt; is_usage(&rt, &["tree", "--theta", "1/1/1"])?);
+    assert!(rt; is_usage(&rt, &["tree", "--g", "-1"])?);
+    assert!(rt; is_usage(&rt, &["tree", "--probe", "nothing"])?);
+    assert!(rt; is_usage(&rt, &["tree", "--workers==3"])?);
+    assert!(rt; is_usage(&rt, &["walk"])?);
+    Ok(())
+}
+
+#[test]
+fn words_out_of_the_plain_form_are_refused(rt: HostRuntime) -> Result<(), Fail> {
+    assert!(rt; is_usage(&rt, &[])?);
+    assert!(rt; is_usage(&rt, &["run", "--workers"])?);
+    assert!(rt; is_usage(&rt, &["--help"])?);
+    assert!(rt; is_usage(&rt, &["tree", "--help"])?);
+    assert!(rt; is_usage(&rt, &["--", "tree"])?);
+    assert!(rt; is_usage(&rt, &["tree", "--workers="])?);
+    assert!(rt; is_usage(&rt, &["tree", "--workers", "2", "--workers=2"])?);
+    assert!(rt; is_usage(&rt, &["tree", "--work", "2"])?);
+    assert!(rt; is_usage(&rt, &["tree", "tree"])?);
+    Ok(())
+}
+
+#[test]
+fn what_is_not_served_is_refused(rt: HostRuntime) -> Result<(), Fail> {
+    assert!(rt; is_usage(&rt, &["run"])?);
+    assert!(rt; is_usage(&rt, &["tree", "--builder", "local"])?);
+    assert!(rt; is_usage(&rt, &["tree", "--steps", "2"])?);
+    assert!(rt; is_usage(&rt, &["tree", "--probe", "all"])?);
+    assert!(rt;
+        !is_usage(
+            &rt,
+            &[
+                "tree",
+                "--builder=orig",
+                "--steps",
+                "001",
+                "--probe",
+                "none",
+                "--count",
+                "65536",
+                "--shape",
+                "corner"
+            ]
+        )?
+    );
+    Ok(())
+}
