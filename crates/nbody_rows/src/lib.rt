@@ -10,3 +10,5 @@ mod made;
 mod regions;
 #[cfg(test)]
 mod runs;
+#[cfg(test)]
+mod words;

@@ -40,6 +40,7 @@ row_for p = record { id = p.0; values = p.1 ∷ []; count = None; source = Some 
 abbrev pub rows_for : Given → List Row
 rows_for given = map row_for given
 
+-- a name has a row exactly where it was given
 pub has_row-is_given : (name : Text) (given : Given) → has_row name (rows_for given) ≡ is_given name given
 has_row-is_given name [] = refl
 has_row-is_given name (p ∷ ps) = ap (λ b. bytes_eq p.0 name || b) (has_row-is_given name ps)
@@ -76,34 +77,42 @@ line_rules = refl
 
 -- ---- tests
 
+-- what an optional value under a test says, where it is there
 pub if_some : {X : Type 0} (b : Bool) (x y : X) → (if b then Some x else None) ≡ Some y → (b ≡ true) × (x ≡ y)
 if_some true x y e = (refl, same_Some x y e)
 if_some false x y e = absurd (none-some y e)
 
+-- two tests that both pass
 pub both : (a b : Bool) → (a && b) ≡ true → (a ≡ true) × (b ≡ true)
 both true b e = (refl, e)
 both false b e = absurd (true≢false (sym e))
 
+-- a test whose negation passes
 pub not_true : (b : Bool) → not b ≡ true → b ≡ false
 not_true true e = absurd (true≢false (sym e))
 not_true false e = refl
 
+-- a test, or one that fails
 or_false : (b : Bool) → (b || false) ≡ b
 or_false true = refl
 or_false false = refl
 
+-- a test, or one that passes
 or_true : (b : Bool) → (b || true) ≡ true
 or_true true = refl
 or_true false = refl
 
+-- a test, and one that fails
 and_false : (b : Bool) → (b && false) ≡ false
 and_false true = refl
 and_false false = refl
 
+-- a choice between the same
 either_way : {X : Type 0} (b : Bool) (x : X) → (if b then x else x) ≡ x
 either_way true x = refl
 either_way false x = refl
 
+-- a text is equal to itself
 pub same_bytes : (xs : Text) → bytes_eq xs xs ≡ true
 same_bytes xs = (bytes_decides xs xs).1 refl
 
@@ -114,6 +123,7 @@ record IsPlainWord (word : Text) : Type 0 where
   pub no_long : long_of word ≡ None
   pub no_short : short_of word ≡ None
 
+-- a value is no option and no `--` to clap
 value_is_plain : (word : Text) → is_value word ≡ true → IsPlainWord word
 value_is_plain [] e = absurd (true≢false (sym e))
 value_is_plain (b ∷ bytes) e =
@@ -134,10 +144,12 @@ record IsOption (names : List Text) (name : Text) : Type 0 where
   pub by_id : arg_by_id (rules_of_names names) name ≡ Some (option_filled name)
   pub no_command : bytes_eq name (codes "command") ≡ false
 
+-- each of the names is that of an option
 abbrev AreOptions : List Text → List Text → Type 0
 AreOptions names [] = ⊤
 AreOptions names (x ∷ xs) = IsOption names x × AreOptions names xs
 
+-- the ten names are those of options
 names_are_options : AreOptions option_names option_names
 unfolding option_names
 names_are_options = (
@@ -174,6 +186,7 @@ names_are_options = (
 
 -- ---- one use
 
+-- the command line as clap completes it, with the options of `names`
 abbrev line_shape : List Text → Shape
 line_shape names = record (new_shape (codes "nbody")) {
   rules = rules_of_names names;
@@ -183,6 +196,7 @@ line_shape names = record (new_shape (codes "nbody")) {
   is_built = true;
 }
 
+-- the line is completed so
 line_is : (built line).top ≡ line_shape option_names
 unfolding line option_names
 line_is = refl
@@ -198,9 +212,11 @@ row_added id change missing (p ∷ ps) e = go (bytes_eq p.0 id) e (λ f. row_add
     go true f more = absurd (true≢false f)
     go false f more = ap (λ rs. row_for p ∷ rs) (more f)
 
+-- one more value is one more row
 rows_more : (given : Given) (p : Text × Text) → rows_for (given ++ p ∷ []) ≡ rows_for given ++ row_for p ∷ []
 rows_more given p = map-append row_for given (p ∷ [])
 
+-- nothing at the end
 append_none : {X : Type 0} (xs : List X) → xs ++ [] ≡ xs
 append_none [] = refl
 append_none (x ∷ xs) = ap (λ ys. x ∷ ys) (append_none xs)
@@ -212,29 +228,36 @@ use_adds name value given new =
     let gone : without name (rows_for given) ≡ rows_for given = row_added name (λ _. []) [] given new ∙ append_none (rows_for given) in
     ap (with_values name AsWritten CommandLine (value ∷ [])) gone ∙ row_added name (more_values CommandLine (value ∷ [])) _ given new ∙ sym (rows_more given (name, value))
 
+-- a first use of the command gives one more row
 command_adds : (value : Text) (given : Given) → is_given (codes "command") given ≡ false
     → used command_filled (value ∷ []) (rows_for given) ≡ rows_for (given ++ (codes "command", value) ∷ [])
 command_adds value given new = use_adds (codes "command") value given new
 
+-- a first use has no fault
 use_passes : (name value : Text) (given : Given) → is_given name given ≡ false → use_fault false (option_filled name) (value ∷ []) (rows_for given) ≡ []
 use_passes name value given new = rw (has_row-is_given name given, new) refl
 
 -- ---- where clap's walk stands
 
+-- the walk between two words of the form, which has no `--` behind it and met no subcommand
 abbrev walk_at : Held → Waiting → ℕ → Walk
 walk_at h waiting position = record { held = h; waiting = waiting; position = position; is_trailing = false; stopped = None }
 
+-- what the walk waits for
 abbrev waiting_for : Option Text → Waiting
 waiting_for None = idle
 waiting_for (Some name) = option name
 
+-- the place of the next positional
 abbrev place_of : Given → ℕ
 place_of given = if is_given (codes "command") given then 2 else 1
 
+-- what the walk holds: used without a fault it gives the rows of what was given, and where an option waits it is pending without a value
 abbrev Stands : List Text → Given → Option Text → Held → Type 0
 Stands names given None h = (settle_fault (rules_of_names names) false h ≡ []) × ((settled (rules_of_names names) h).rows ≡ rows_for given)
 Stands names given (Some name) h = (h.rows ≡ rows_for given) × (h.pending ≡ Some (name, [])) × IsOption names name
 
+-- the walk where the scan stands
 abbrev walk_of : Scan → Held → Walk
 walk_of s h = walk_at h (waiting_for s.waits) (place_of s.given)
 
@@ -255,6 +278,7 @@ value_stands names a name value given rows skip found same fits adds = (
   ap (λ o. used_by_id o (value ∷ []) rows) found ∙ ap (used a (value ∷ [])) same ∙ adds,
 )
 
+-- an option leaves the place of the next positional
 place_kept : (name value : Text) (given : Given) → bytes_eq name (codes "command") ≡ false → place_of (given ++ (name, value) ∷ []) ≡ place_of given
 place_kept name value given other =
     ap (λ b. if b then 2 else 1) (list_any-append (λ (p : Text × Text). bytes_eq p.0 (codes "command")) given ((name, value) ∷ []) ∙ ap (λ b. is_given (codes "command") given || (b || false)) other ∙ or_false _)
@@ -296,10 +320,12 @@ takes_joined names given name value h (fits, same) known new =
       goes = rw (known.joined_no_end value, known.joined_long value, known.by_long, place_kept name value given known.no_command) refl;
     }
 
+-- the command takes the first place
 place_moved : (value : Text) (given : Given) → place_of (given ++ (codes "command", value) ∷ []) ≡ 2
 place_moved value given =
     ap (λ b. if b then 2 else 1) (list_any-append (λ (p : Text × Text). bytes_eq p.0 (codes "command")) given ((codes "command", value) ∷ []) ∙ or_true (is_given (codes "command") given))
 
+-- clap finds the command by its id
 command_by_id : (names : List Text) → arg_by_id (rules_of_names names) (codes "command") ≡ Some command_filled
 command_by_id names = refl
 
@@ -331,6 +357,7 @@ named_in names (x ∷ xs) word name (here, rest) found = go (bytes_eq word (45 �
         ((bytes_decides word (45 ∷ 45 ∷ x)).0 e ∙ ap (λ n. 45 ∷ 45 ∷ n) is, subst (IsOption names) is here)
     go false e f more = more f
 
+-- what one word makes of the walk over the line
 abbrev LineMoves : Scan → Held → Text → Scan → Type 0
 LineMoves = Moves option_names
 
@@ -368,6 +395,7 @@ joined_is word p e = go (position (λ b. b == 61) word) refl e
             subst (λ (q : Text × Text). (word ≡ 45 ∷ 45 ∷ (q.0 ++ 61 ∷ q.1)) × IsOption option_names q.0) is
             (word_cut word i at ∙ ap (λ (ws : Text). ws ++ 61 ∷ drop (i + 1) word) parts.0, parts.1)
 
+-- a word that joins an option to its value, or the command, moves the walk
 joined_leads : (given : Given) (word : Text) (h : Held) (t : Scan) (o : Option (Text × Text)) → named_value word ≡ o → Stands option_names given None h
     → with_use given (joined word o) ≡ Some t → LineMoves (record { given = given; waits = None }) h word t
 joined_leads given word h t None e stands leads =
@@ -378,6 +406,7 @@ joined_leads given word h t (Some p) e stands leads =
     subst (λ (w : Text). LineMoves (record { given = given; waits = None }) h w (record { given = given ++ (p.0, p.1) ∷ []; waits = None })) (sym cut.0)
     (takes_joined option_names given p.0 p.1 h stands cut.1 new))
 
+-- a word that no option waits for moves the walk
 met_leads : (given : Given) (word : Text) (h : Held) (t : Scan) (o : Option Text) → option_named word ≡ o → Stands option_names given None h
     → with_use given (met word o) ≡ Some t → LineMoves (record { given = given; waits = None }) h word t
 met_leads given word h t None e stands leads = joined_leads given word h t (named_value word) refl stands leads
@@ -386,6 +415,7 @@ met_leads given word h t (Some name) e stands leads =
     let there = subst (λ (w : Text). LineMoves (record { given = given; waits = None }) h w (record { given = given; waits = Some name })) (sym known.0) (takes_option option_names given name h stands known.1) in
     subst (LineMoves (record { given = given; waits = None }) h word) (same_Some _ t leads) there
 
+-- a word that fits the form moves the walk
 scan_leads : (given : Given) (waits : Option Text) (word : Text) (h : Held) (t : Scan) → Stands option_names given waits h
     → with_use given (meant waits word) ≡ Some t → LineMoves (record { given = given; waits = waits }) h word t
 scan_leads given None word h t stands leads = met_leads given word h t (option_named word) refl stands leads
@@ -399,6 +429,7 @@ record Ends (w : Walk) (given : Given) : Type 0 where
   pub rows : (settled (rules_of_names option_names) w.held).rows ≡ rows_for given
   pub commanded : is_given (codes "command") given ≡ true
 
+-- where the line is whole, the walk ends with what was given
 ends_whole : (s : Scan) (h : Held) (given : Given) → Stands option_names s.given s.waits h → whole s.given s.waits ≡ Some given → Ends (walk_of s h) given
 ends_whole s h given = go s.given s.waits
   where
@@ -434,29 +465,34 @@ walks (word ∷ words) s h given stands e = go (with_use s.given (meant s.waits 
 
 -- ---- after the words
 
--- no option has a default value, nor has the command
+-- no option has a default value
 no_default : (rows : List Row) (name : Text) → default_fault rows (option_filled name) ≡ []
 no_default rows name = rw (or_true (has_row name rows)) refl
 
+-- the command has no default value
 no_command_default : (rows : List Row) → default_fault rows command_filled ≡ []
 no_command_default rows = rw (or_true (has_row (codes "command") rows)) refl
 
+-- the defaults of the options have no fault
 defaults_pass : (rows : List Row) (names : List Text) → defaults_fault rows (map option_filled names) ≡ []
 unfolding defaults_fault
 defaults_pass rows [] = refl
 defaults_pass rows (name ∷ names) =
     ap₂ or_else (no_default rows name) (ap (λ rs. defaults_fault rs (map option_filled names)) (either_way (has_row name rows) rows) ∙ defaults_pass rows names)
 
+-- no default has a fault
 all_pass : (rows : List Row) (names : List Text) → defaults_fault rows (rules_of_names names) ≡ []
 unfolding defaults_fault
 all_pass rows names =
     ap₂ or_else (no_command_default rows)
     (ap (λ rs. defaults_fault rs (map option_filled names)) (either_way (has_row (codes "command") rows) rows) ∙ defaults_pass rows names)
 
+-- the options' defaults add no row
 options_add_none : (rows : List Row) (names : List Text) → fold with_default rows (map option_filled names) ≡ rows
 options_add_none rows [] = refl
 options_add_none rows (name ∷ names) = ap (λ rs. fold with_default rs (map option_filled names)) (either_way (has_row name rows) rows) ∙ options_add_none rows names
 
+-- no default adds a row
 all_add_none : (rows : List Row) (names : List Text) → fold with_default rows (rules_of_names names) ≡ rows
 all_add_none rows names = ap (λ rs. fold with_default rs (map option_filled names)) (either_way (has_row (codes "command") rows) rows) ∙ options_add_none rows names
 
@@ -470,21 +506,26 @@ row_is_given name (p ∷ ps) = go (bytes_eq p.0 name) (row_is_given name ps)
     go true e = refl
     go false e = e
 
+-- no option is missing, since none is required
 options_missing : (rows : List Row) (names : List Text) → list_any (λ (a : Rule). a.required && not (is_row_given a.id rows)) (map option_filled names) ≡ false
 options_missing rows [] = refl
 options_missing rows (name ∷ names) = options_missing rows names
 
+-- where the command was given, clap's last checks pass
 check_passes : (given : Given) (names : List Text) → is_given (codes "command") given ≡ true → check_fault (line_shape names) (rows_for given) false ≡ []
 check_passes given names e = rw (row_is_given (codes "command") given, e, options_missing (rows_for given) names) refl
 
+-- the line, completed, has no subcommand
 line_built : built line ≡ record { top = line_shape option_names; subs = [] }
 unfolding line option_names
 line_built = refl
 
+-- all words are the line's
 line_words : (words : List Text) → argument_words line words ≡ words
 unfolding line
 line_words words = refl
 
+-- the line has no fault at words of the form, and the rows of what they give
 level_passes : (words : List Text) (given : Given) → given_by words ≡ Some given
     → (level_fault (line_shape option_names) [] nothing_held words false [] ≡ []) × (rows_after (rules_of_names option_names) [] words ≡ rows_for given)
 unfolding option_names

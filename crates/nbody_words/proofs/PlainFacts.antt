@@ -29,6 +29,7 @@ module _ (given : Given) (waits : Option Text) (word : Text) (words : List Text)
   unfolding given_after scanned
   refused_next value about bad = ap (λ u. is_some (goes_on (given_after words) (with_use given u))) about ∙ rw bad refl
 
+-- an optional value under a test is there where the test passes
 if_is_some : {X : Type 0} (b : Bool) (x : X) → is_some (if b then Some x else None) ≡ b
 if_is_some true x = refl
 if_is_some false x = refl

@@ -16,14 +16,17 @@ use Rattle.nbody_words.specs.Options.{choices_of, is_served, if_served, options_
 use Rattle.nbody_words.specs.Plain.{Text, given_by, option_names, value_of}
 use Rattle.nbody_words.proofs.ClapLine.{faults, first_of-value_of, found_in, plain_words_pass}
 
+-- clap states the matches of the line
 line_is_simple : is_simple line ≡ true
 unfolding line option_names
 line_is_simple = refl
 
+-- clap states the faults of the line
 line_is_free : is_simple_and_free line ≡ true
 unfolding line option_names
 line_is_free = refl
 
+-- the value that is there
 is_there : {X : Type 0} (o : Option X) → is_some o ≡ true → (x : X) × (o ≡ Some x)
 is_there None e = absurd (true≢false (sym e))
 is_there (Some x) e = (x, refl)
@@ -48,14 +51,17 @@ values_found a words m same plain matches =
     λ name. sym (first_value-rows (found_of m) name ∙ ap (first_of name) rows ∙ first_of-value_of name given.0) in
     ap (option_and_then options_in) given.1 ∙ (λ i. options_for (λ name. found name i))
 
+-- choices that are served are options
 pub served : (value : Text → Option Text) (o : Choices) → choices_of value ≡ Some o → is_served o ≡ true → options_for value ≡ Some o
 unfolding options_for
 served value o chosen is = ap (option_and_then if_served) chosen ∙ ap (λ b. if b then Some o else None) is
 
+-- choices that aren't served are none
 pub not_served : (value : Text → Option Text) (o : Choices) → choices_of value ≡ Some o → is_served o ≡ false → options_for value ≡ None
 unfolding options_for
 not_served value o chosen is = ap (option_and_then if_served) chosen ∙ ap (λ b. if b then Some o else None) is
 
+-- without choices there are no options
 pub nothing_chosen : (value : Text → Option Text) → choices_of value ≡ None → options_for value ≡ None
 unfolding options_for
 nothing_chosen value none = ap (option_and_then if_served) none

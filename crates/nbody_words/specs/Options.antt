@@ -20,17 +20,20 @@ use Rattle.nbody_words.specs.declared.options.Shape.TheVariants as shape
 
 -- ---- the rule of each value
 
+-- the command that a word names
 abbrev pub command_of : Text → Option Command
 command_of word =
     if bytes_eq word (codes "tree") then Some command.Tree else if bytes_eq word (codes "passes") then Some command.Passes
     else if bytes_eq word (codes "run") then Some command.Run else if bytes_eq word (codes "trial") then Some command.Trial else None
 
+-- the builder that a word names
 abbrev pub builder_of : Text → Option Builder
 builder_of word =
     if bytes_eq word (codes "orig") then Some builder.Orig else if bytes_eq word (codes "local") then Some builder.Local
     else if bytes_eq word (codes "update") then Some builder.Update else if bytes_eq word (codes "partree") then Some builder.Partree
     else if bytes_eq word (codes "space") then Some builder.Space else None
 
+-- the probes that a word names
 abbrev pub probe_of : Text → Option ProbeChoice
 probe_of word =
     if bytes_eq word (codes "none") then Some probe.Nobody else if bytes_eq word (codes "all") then Some probe.All
@@ -38,6 +41,7 @@ probe_of word =
     else if bytes_eq word (codes "momentum") then Some (probe.Only kind.Momentum)
     else if bytes_eq word (codes "first") then Some (probe.Only kind.First) else None
 
+-- the shape that a word names
 abbrev pub shape_of : Text → Option Shape
 shape_of word =
     if bytes_eq word (codes "uniform") then Some shape.Uniform else if bytes_eq word (codes "corner") then Some shape.Corner else None
@@ -51,6 +55,7 @@ at_least least (Some n) = if nat_le least n then Some n else None
 abbrev pub decimal_from : ℕ → ℕ → Text → Option ℕ
 decimal_from least most word = at_least least (result_ok (decimal_read word most))
 
+-- a numerator and a denominator, where both are there
 abbrev pub fraction : Option ℕ → Option ℕ → Option (ℕ × ℕ)
 fraction (Some num) (Some den) = Some (num, den)
 fraction _ _ = None
@@ -70,32 +75,39 @@ abbrev pub given_or : {X : Type 0} → X → (Text → Option X) → Option Text
 given_or default read None = Some default
 given_or default read (Some word) = read word
 
+-- a law, where each of its values is there
 abbrev pub law_from : Option (ℕ × ℕ) → Option ℕ → Option ℕ → Option PullLaw
 law_from (Some theta) (Some eps2) (Some g) = Some (record { theta_num = theta.0; theta_den = theta.1; eps2 = eps2; g = g })
 law_from _ _ _ = None
 
+-- the law of the values, each by its rule or its default
 abbrev pub law_of : (Text → Option Text) → Option PullLaw
 law_of value =
     law_from (given_or (1, 1) theta_of (value (codes "theta"))) (given_or 0 (decimal_from 0 (2 ^ 44 - 1)) (value (codes "eps2")))
     (given_or 4294967296 (decimal_from 0 (2 ^ 40)) (value (codes "g")))
 
+-- a plan, where each of its parts is there
 abbrev pub plan_from : Option Builder → Option ℕ → Option PullLaw → Option TreePlan
 plan_from (Some builder) (Some workers) (Some law) = Some (record { builder = builder; workers = workers; law = law })
 plan_from _ _ _ = None
 
+-- the plan of the values, each by its rule or its default
 abbrev pub plan_of : (Text → Option Text) → Option TreePlan
 plan_of value =
     plan_from (given_or builder.Orig builder_of (value (codes "builder"))) (given_or 1 (decimal_from 1 64) (value (codes "workers"))) (law_of value)
 
+-- a scene to be made, where each of its values is there
 abbrev pub made_from : Option ℕ → Option ℕ → Option Shape → Option Made
 made_from (Some count) (Some seed) (Some shape) = Some (record { count = count; seed = seed; shape = shape })
 made_from _ _ _ = None
 
+-- the scene to be made of the values, each by its rule or its default
 abbrev pub made_of : (Text → Option Text) → Option Made
 made_of value =
     made_from (given_or 1000 (decimal_from 0 65536) (value (codes "count"))) (given_or 0 (decimal_from 0 (2 ^ 64 - 1)) (value (codes "seed")))
     (given_or shape.Uniform shape_of (value (codes "shape")))
 
+-- the choices, where each part is there
 abbrev pub choices_from : Option Command → Option TreePlan → Option ℕ → Option ProbeChoice → Option Made → Option Choices
 choices_from (Some command) (Some plan) (Some steps) (Some probe) (Some made) =
     Some (record { command = command; plan = plan; steps = steps; probe = probe; made = made })
@@ -109,14 +121,17 @@ choices_of value =
 
 -- ---- what is served
 
+-- the commands that are served
 abbrev pub serves_command : Command → Bool
 serves_command command.Tree = true
 serves_command _ = false
 
+-- the builders that are served
 abbrev pub serves_builder : Builder → Bool
 serves_builder builder.Orig = true
 serves_builder _ = false
 
+-- the probes that are served
 abbrev pub serves_probe : ProbeChoice → Bool
 serves_probe probe.Nobody = true
 serves_probe _ = false
@@ -125,6 +140,7 @@ serves_probe _ = false
 abbrev pub is_served : Choices → Bool
 is_served c = serves_command c.command && (serves_builder c.plan.builder && (c.steps == 1 && serves_probe c.probe))
 
+-- the choices, where they are served
 abbrev pub if_served : Choices → Option Choices
 if_served c = if is_served c then Some c else None
 
@@ -134,6 +150,7 @@ if_served c = if is_served c then Some c else None
 unfoldable pub options_for : (Text → Option Text) → Option Choices
 options_for value = option_and_then if_served (choices_of value)
 
+-- the options of what the words give
 abbrev pub options_in : Given → Option Choices
 options_in given = options_for (λ name. value_of name given)
 

@@ -34,6 +34,7 @@ is_value (b ∷ bytes) = not (b == 45)
 abbrev pub Given : Type 0
 Given = List (Text × Text)
 
+-- whether a value was given for a name
 abbrev pub is_given : Text → Given → Bool
 is_given name given = list_any (λ p. bytes_eq p.0 name) given
 
@@ -76,6 +77,7 @@ abbrev pub whole : Given → Option Text → Option Given
 whole given (Some name) = None
 whole given None = if is_given (codes "command") given then Some given else None
 
+-- what more words give, where the words so far fit the form
 abbrev pub goes_on : (Scan → Option Given) → Option Scan → Option Given
 goes_on more None = None
 goes_on more (Some s) = more s

@@ -10,6 +10,3 @@ pub use options::{
     Builder, Command, Kind, Law, Made, Options, OptionsFault, Plan, ProbeChoice, Shape,
 };
 pub use read::read_options;
-
-#[cfg(test)]
-mod tests;

@@ -1,9 +1,9 @@
-// What no clause says: that the calls succeed where memory is ample.
+//! The options of a few lines of words.
 
-use super::*;
+use nbody_words::{Builder, Command, Options, OptionsFault, ProbeChoice, Shape, read_options};
 use std::test::Fail;
 
-// What the words have.
+/// What the words have.
 fn read(rt: &HostRuntime, texts: &[&str]) -> Result<Result<Options, OptionsFault>, Fail> {
     let alloc = rt.alloc();
     let mut words: Vec<String> = Vec::new(alloc);
@@ -13,7 +13,7 @@ fn read(rt: &HostRuntime, texts: &[&str]) -> Result<Result<Options, OptionsFault
     Ok(read_options(alloc, &words))
 }
 
-// Whether the words have no options.
+/// Whether the words have no options.
 fn is_usage(rt: &HostRuntime, texts: &[&str]) -> Result<bool, Fail> {
     Ok(read(rt, texts)? == Err(OptionsFault::Usage))
 }
