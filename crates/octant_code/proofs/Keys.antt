@@ -1,8 +1,9 @@
 -- How large keys are, and that they tell their level and their parent.
-use Rattle.std.proofs.Common.{ℕ, ◌+◌, ◌*◌, ◌^◌, ◌<◌, ◌≤◌, ◌≡◌, zero, suc, refl, arith, inl, inr}
+use Rattle.std.proofs.Common.{ℕ, ◌+◌, ◌*◌, ◌/◌, ◌^◌, ◌<◌, ◌≤◌, ◌≡◌, ◌↔◌, IsTrue, zero, suc, refl, sym, ap, ◌∙◌, arith, inl, inr, eqb, eq-eqb}
+use borrow.Author.Tests.{eqb-true}
 use Rattle.std.proofs.lemmas.Bool.{cases_lt}
-use Rattle.std.proofs.Math.Nat.{pow-zero, pow-suc, pow-le-pow_right}
-use Rattle.octant_code.specs.Space.{Site, octant_of, bit_at, key_of}
+use Rattle.std.proofs.Math.Nat.{pow-zero, pow-suc, pow-le-pow_right, div-div-eq-div-mul}
+use Rattle.octant_code.specs.Space.{Site, octant_of, bit_at, key_of, IsUnder}
 
 -- what an octant is made of
 pub octant-bits : (s : Site) (level : ℕ) → octant_of s level ≡ 4 * bit_at s.x level + 2 * bit_at s.y level + bit_at s.z level
@@ -64,6 +65,30 @@ same_child a b k m p q e = omega arith
 -- the keys of one more level fit 64 bits
 pub key-next-fits : (s : Site) (level : ℕ) → level < 21 → 8 * key_of s level + 7 < 2 ^ 64
 key-next-fits s level h = omega (arith, key-high s level, pow8-mono level 20 (omega arith))
+
+-- a search through all levels found no key, but maybe that of the last
+pub last-level : (s : Site) (here key i : ℕ) → here ≡ key_of s i → i ≡ 21 → ((k : ℕ) → k < i → key ≡ key_of s k → ⊥) → IsTrue (eqb here key) ↔ IsUnder key s
+last-level s here key i h e below = (
+  λ t. (i, omega arith, sym (eqb-true here key t) ∙ h),
+  λ u. elim (cases_lt u.0 i) [
+    | inl l ↦ absurd (below u.0 l u.2)
+    | inr g ↦ (let same : u.0 ≡ i = omega arith in eq-eqb here key (h ∙ sym (ap (key_of s) same) ∙ sym u.2))
+  ],
+)
+
+-- a key, divided by 8 for each level between, is the key of the level above
+pub key-above : (s : Site) (level below : ℕ) → key_of s (level + below) / 8 ^ below ≡ key_of s level
+key-above s level zero =
+    let e : level + 0 ≡ level = omega arith in
+    omega (arith, pow-zero 8, ap (key_of s) e)
+key-above s level (suc below) =
+    let next : level + suc below ≡ suc (level + below) = omega arith in
+    let deeper : key_of s (level + suc below) ≡ 8 * key_of s (level + below) + octant_of s (level + below) = ap (key_of s) next ∙ key-suc s (level + below) in
+    let power : 8 * 8 ^ below ≡ 8 ^ suc below = omega (arith, pow-suc 8 below) in
+    let parent : key_of s (level + suc below) / 8 ≡ key_of s (level + below) = omega (arith, deeper, octant-small s (level + below)) in
+    let split : key_of s (level + suc below) / 8 / 8 ^ below ≡ key_of s (level + suc below) / 8 ^ suc below =
+    div-div-eq-div-mul (key_of s (level + suc below)) 8 (8 ^ below) ∙ ap (λ p. key_of s (level + suc below) / p) power in
+    sym split ∙ ap (λ k. k / 8 ^ below) parent ∙ key-above s level below
 
 -- a key that is in the range of a level is of that level
 pub level_of_key : (s : Site) (key level l : ℕ) → 8 ^ level ≤ key → key < 2 * 8 ^ level → key ≡ key_of s l → l ≡ level

@@ -1,5 +1,5 @@
 //! Points of the cube, octants and the keys of cubes, lists of distinct points, decimal numbers, and
-//! exact square roots and quotients.
+//! exact square roots and quotients, and steps that are counted.
 #![tactic(auto)]
 
 mod decimal;
@@ -8,10 +8,12 @@ mod numbers;
 mod point;
 mod points;
 mod space;
+mod steps;
 
 pub use decimal::{NumberFault, read_decimal};
 pub use memory::OutOfMemory;
-pub use numbers::{isqrt, trunc_div};
+pub use numbers::{isqrt, short_isqrt, trunc_div};
 pub use point::Point;
 pub use points::{Distinct, Points};
-pub use space::{key_at, octant};
+pub use space::{key_at, key_has, octant, squared_distance};
+pub use steps::Steps;

@@ -1,24 +1,28 @@
 //! Exact square roots and quotients of whole numbers.
 
 ghost use Rattle.std.specs.Prelude.{◌≡◌, ◌+◌, ◌*◌, ◌^◌, ◌<◌, ◌≤◌};
-ghost use Rattle.octant_code.specs.Numbers.{quotient};
+ghost use Rattle.octant_code.specs.Numbers.{quotient, root};
 
 use std::num::{nearest_u64_to_f64, saturating_f64_to_u64};
 
 /// The greatest number whose square is at most `n`. It is exact for every `n`, and fast below 2^64.
 pub fn isqrt(n: u128) -> u128
+    ensures value { result ≡ root n }
     ensures low { result * result ≤ n }
     ensures high { n < (result + 1) * (result + 1) }
 {
     if n <= 0xffff_ffff_ffff_ffff {
-        u128::from(short_root(n as u64))
+        u128::from(short_isqrt(n as u64))
     } else {
         n.isqrt()
     }
 }
 
-/// The same of a short number. A guess is tested, so that nothing has to be known of it.
-fn short_root(n: u64) -> u64
+/// The same of a number below 2^64, in 64-bit arithmetic. A guess is tested, so that nothing has to
+/// be known of it.
+#[inline]
+pub fn short_isqrt(n: u64) -> u64
+    ensures value { result ≡ root n }
     ensures low { result * result ≤ n }
     ensures high { n < (result + 1) * (result + 1) }
 {

@@ -1,7 +1,7 @@
 //! The octants that a point lies in, and the keys of the cubes around it.
 
-ghost use Rattle.std.specs.Prelude.{◌≡◌, ◌<◌, ◌≤◌};
-ghost use Rattle.octant_code.specs.Space.{key_of, octant_of};
+ghost use Rattle.std.specs.Prelude.{◌≡◌, ◌↔◌, ◌*◌, ◌<◌, ◌≤◌, ◌^◌, IsTrue};
+ghost use Rattle.octant_code.specs.Space.{IsKey, IsUnder, key_of, octant_of, squared_distance};
 
 use crate::point::Point;
 
@@ -30,4 +30,31 @@ pub fn key_at(p: Point, level: u32) -> u64
         key = 8 * key + u64::from(octant(p, i));
     }
     key
+}
+
+/// Whether a point lies in the cube of a key.
+pub fn key_has(key: u64, p: Point) -> bool
+    requires { IsKey key }
+    ensures { IsTrue result ↔ IsUnder key p }
+{
+    let mut here: u64 = 1;
+    for i in 0..21 {
+        if here == key {
+            return true;
+        }
+        here = 8 * here + u64::from(octant(p, i));
+    }
+    here == key
+}
+
+/// The squared distance of two points, below 2^44.
+#[inline]
+pub fn squared_distance(p: Point, q: Point) -> u64
+    ensures value { result ≡ squared_distance p q }
+    ensures small { result < 2 ^ 44 }
+{
+    let x = u64::from(p.x.abs_diff(q.x));
+    let y = u64::from(p.y.abs_diff(q.y));
+    let z = u64::from(p.z.abs_diff(q.z));
+    x * x + y * y + z * z
 }
