@@ -16,7 +16,7 @@ pub record ArePlaced (site : ℕ → Site) (bodies : List ℕ) : Type 0 where
   pub apart : (a b : ℕ) → IsIn bodies a → IsIn bodies b → site a ≡ site b → a ≡ b
 
 -- a member of a list is one of those of which all is said
-member_of_all : (P : ℕ → Type 0) (xs : List ℕ) (n : ℕ) → All P xs → IsIn xs n → P n
+pub member_of_all : (P : ℕ → Type 0) (xs : List ℕ) (n : ℕ) → All P xs → IsIn xs n → P n
 member_of_all P [] n h i = absurd i
 member_of_all P (x ∷ xs) n h (inl e) = subst P (sym e) (h 0 0 (omega arith))
 member_of_all P (x ∷ xs) n h (inr i) = member_of_all P xs n (λ k d l. h (suc k) d (omega arith)) i

@@ -5,3 +5,12 @@ pub mod Same
 pub mod Cells
 pub mod Orders
 pub mod Splits
+pub mod Totals
+pub mod AllBodies
+pub mod Standing
+pub mod Terms
+pub mod PullBounds
+pub mod ZoneCuts
+pub mod PlainZones
+pub mod PlainMoments
+pub mod PlainPulls

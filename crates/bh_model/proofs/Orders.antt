@@ -27,7 +27,7 @@ order_of_many : (site : ℕ → Site) (below level n m : ℕ) (rest : List ℕ) 
 order_of_many site below level n m rest = ap order (octree-many site below level n m rest) ∙ order-cell (λ k. octree_from site below (suc level) (in_octant site level k (n ∷ m ∷ rest)))
 
 -- a body in the order is one of the list
-from_list : (site : ℕ → Site) (below level : ℕ) (bodies : List ℕ) (n : ℕ) → IsIn (order (octree_from site below level bodies)) n → IsIn bodies n
+pub from_list : (site : ℕ → Site) (below level : ℕ) (bodies : List ℕ) (n : ℕ) → IsIn (order (octree_from site below level bodies)) n → IsIn bodies n
 from_list site below level [] n i = subst (λ (y : List ℕ). IsIn y n) (order_of_none site below level) i
 from_list site below level (a ∷ []) n i = subst (λ (y : List ℕ). IsIn y n) (order_of_one site below level a) i
 from_list site zero level (a ∷ b ∷ rest) n i = absurd (subst (λ (y : List ℕ). IsIn y n) (order_of_deep site level a b rest) i)

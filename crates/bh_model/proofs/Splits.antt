@@ -32,7 +32,7 @@ abbrev pub octant_trees : (ℕ → Site) → ℕ → List ℕ → ℕ → Tree
 octant_trees site level bodies k = octree_from site (21 - (level + 1)) (level + 1) (in_octant site level k bodies)
 
 -- the octree of two bodies or more
-split_tree : (site : ℕ → Site) (level : ℕ) (bodies : List ℕ) → level < 21 → length bodies ≢ 0 → length bodies ≢ 1
+pub split_tree : (site : ℕ → Site) (level : ℕ) (bodies : List ℕ) → level < 21 → length bodies ≢ 0 → length bodies ≢ 1
     → octree_from site (21 - level) level bodies ≡ cell_of (octant_trees site level bodies)
 split_tree site level [] l some many = absurd (some refl)
 split_tree site level (n ∷ []) l some many = absurd (many refl)
@@ -45,7 +45,7 @@ split_tree site level (n ∷ m ∷ rest) l some many =
     (λ k small. ap (λ y. octree_from site (21 - (level + 1)) y (in_octant site level k bodies)) (sym (add-one level)))
 
 -- the octree of no body, and of more than one at the deepest level
-empty_tree : (site : ℕ → Site) (level : ℕ) (bodies : List ℕ) → length bodies ≢ 1 → (length bodies ≡ 0) ⊎ (level ≡ 21) → octree_from site (21 - level) level bodies ≡ Empty
+pub empty_tree : (site : ℕ → Site) (level : ℕ) (bodies : List ℕ) → length bodies ≢ 1 → (length bodies ≡ 0) ⊎ (level ≡ 21) → octree_from site (21 - level) level bodies ≡ Empty
 empty_tree site level [] many h = octree-none site (21 - level) level
 empty_tree site level (n ∷ []) many h = absurd (many refl)
 empty_tree site level (n ∷ m ∷ rest) many (inl e) = absurd (omega arith)
@@ -54,7 +54,7 @@ empty_tree site level (n ∷ m ∷ rest) many (inr e) =
     ap (λ y. octree_from site y level (n ∷ m ∷ rest)) last ∙ octree-deep site level n m rest
 
 -- the octree of one body
-one_tree : (site : ℕ → Site) (below level : ℕ) (bodies : List ℕ) → length bodies ≡ 1 → octree_from site below level bodies ≡ Body (get_or bodies 0 0)
+pub one_tree : (site : ℕ → Site) (below level : ℕ) (bodies : List ℕ) → length bodies ≡ 1 → octree_from site below level bodies ≡ Body (get_or bodies 0 0)
 one_tree site below level bodies l = ap (octree_from site below level) (single bodies l) ∙ octree-one site below level (get_or bodies 0 0)
 
 -- the orders of the octants of a list at a level

@@ -1,5 +1,5 @@
 -- Octrees of bodies, the canonical octree of a list of bodies, and the order, the depth and the text of a tree.
-use Rattle.std.specs.Prelude.{ℕ, ◌+◌, ◌*◌, zero, suc, max, eqb, List, [], ◌∷◌, ◌++◌, filter, decimal}
+use Rattle.std.specs.Prelude.{ℕ, ◌+◌, ◌*◌, zero, suc, max, eqb, List, [], ◌∷◌, ◌++◌, filter, length, decimal}
 use Rattle.octant_code.specs.Space.{Site, octant_of}
 use Rattle.bh_model.specs.Bodies.{IsIn}
 
@@ -40,6 +40,10 @@ cell_keys_from (Cell a b c d e f g h) key =
 -- the tree of the whole cube has a cell at the key
 abbrev pub HasCellAt : Tree → ℕ → Type 0
 HasCellAt tree key = IsIn (cell_keys_from tree 1) key
+
+-- how many cells a tree has
+abbrev pub cell_count : Tree → ℕ
+cell_count tree = length (cell_keys_from tree 1)
 
 -- the bodies of a tree in tree order
 unfoldable pub order : Tree → List ℕ

@@ -43,7 +43,7 @@ pub fn order_has_each_body_once(points: &Points, bodies: &[u32])
 }
 
 /// Each point of a list is in the cube: what one look at each of them tells.
-fn all_in_cube(points: &Points)
+pub(crate) fn all_in_cube(points: &Points)
     ensures { All IsInCube points.now }
 {
     for n in 0..points.len() {

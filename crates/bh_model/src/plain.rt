@@ -10,7 +10,7 @@ use octant_code::{OutOfMemory, Points, octant};
 use std::alloc::Global;
 
 /// How many times the cube is halved along each axis.
-const LEVELS: u32 = 21;
+pub(crate) const LEVELS: u32 = 21;
 
 /// The text of the canonical octree of the bodies: `.` for none, `b` and the number for one, and
 /// the texts of the eight octants between brackets for more.
@@ -91,7 +91,7 @@ fn push_order(
 }
 
 /// The bodies whose point has an octant at a level, in the order of the list.
-fn bodies_in_octant(
+pub(crate) fn bodies_in_octant(
     alloc: Global,
     points: &Points,
     bodies: &[u32],
