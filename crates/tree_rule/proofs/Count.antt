@@ -22,7 +22,7 @@ below_grows upper _ (Same key e) = omega arith
 below_grows upper _ (Deeper parent k key h l e) = omega (arith, below_grows upper parent h)
 
 -- two cubes that hold one lie in each other
-comparable : (a b key : ℕ) → IsKeyBelow a key → IsKeyBelow b key → IsKeyBelow a b ⊎ IsKeyBelow b a
+pub comparable : (a b key : ℕ) → IsKeyBelow a key → IsKeyBelow b key → IsKeyBelow a b ⊎ IsKeyBelow b a
 comparable a b _ (Same key e) h = inr (subst (λ (y : ℕ). IsKeyBelow b y) e h)
 comparable a b _ (Deeper parent k key h l e) (Same key' f) = inl (subst (λ (y : ℕ). IsKeyBelow a y) f (Deeper parent k key h l e))
 comparable a b _ (Deeper parent k key h l e) (Deeper other j key' g m f) =
@@ -37,7 +37,7 @@ child_in key i j _ pos p q d (Deeper parent k deep h l e) =
     absurd (omega (arith, below_grows (8 * key + i) parent h))
 
 -- a cube lies in one child alone
-child_in_child : (key i j : ℕ) → 1 ≤ key → i < 8 → j < 8 → IsKeyBelow (8 * key + i) (8 * key + j) → i ≡ j
+pub child_in_child : (key i j : ℕ) → 1 ≤ key → i < 8 → j < 8 → IsKeyBelow (8 * key + i) (8 * key + j) → i ≡ j
 child_in_child key i j pos p q h = child_in key i j (8 * key + j) pos p q refl h
 
 -- no cell is read below the word 0

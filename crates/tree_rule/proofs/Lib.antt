@@ -7,3 +7,5 @@ pub mod Chain
 pub mod Sound
 pub mod Count
 pub mod Published
+pub mod Exact
+pub mod Tested

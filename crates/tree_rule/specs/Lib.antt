@@ -1,3 +1,5 @@
 pub mod Words
 pub mod Flat
 pub mod Sound
+pub mod Standing
+pub mod Tested

@@ -1,12 +1,13 @@
 //! The laws of words that stand for bodies.
 
-ghost use Rattle.std.specs.Prelude.{◌≡◌, ◌<◌, ◌++◌, ◌∷◌, ℕ, length, slice_set};
+ghost use Rattle.std.specs.Prelude.{◌≡◌, ◌<◌, ◌↔◌, ◌++◌, ◌∷◌, ℕ, length, slice_set};
 ghost use Rattle.octant_code.specs.Space.{IsUnder};
 ghost use Rattle.octant_code.specs.Points.{site_at};
 ghost use Rattle.bh_model.specs.Bodies.{IsIn, NoneTwice};
 ghost use Rattle.bh_model.specs.Trees.{octree, order};
 ghost use Rattle.tree_rule.specs.Words.{at_of, body_word, cell_word, tree_from};
 ghost use Rattle.tree_rule.specs.Flat.{IsPlaceOf, PartStandsFor, WordsStandFor};
+ghost use Rattle.tree_rule.specs.Standing.{WordsNameExactly};
 
 use octant_code::Points;
 
@@ -101,4 +102,12 @@ pub fn cell_over_body(
 {
     let _read = (points.len(), words.len(), cells.len(), bodies.len());
     let _new = (new_cells.len(), new_bodies.len());
+}
+
+/// Words name cells and bodies exactly, as one says it aloud, where they stand for the bodies by the
+/// facts on single words and no cell stands twice in its list.
+pub fn exact_words_stand(points: &Points, words: &[u64], cells: &[u32], bodies: &[u32])
+    ensures { WordsNameExactly points.now words.now cells.now bodies.now ↔ (WordsStandFor points.now words.now cells.now bodies.now × NoneTwice cells.now) }
+{
+    let _read = (points.len(), words.len(), cells.len(), bodies.len());
 }

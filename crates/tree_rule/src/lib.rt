@@ -1,11 +1,13 @@
-//! The rule of the shared words of an octree: what it is for words to stand for a set of bodies,
-//! and the laws that say how they do. The contract of each function is a law, and its body only
-//! looks at its arguments.
+//! The rule of the shared words of an octree: what it is for words to stand for a set of bodies, the
+//! laws that say how they do, and a test of small tables. The contract of each function in `laws` is
+//! a law, and its body only looks at its arguments.
 #![tactic(auto)]
 
 mod laws;
+mod stands;
 
 pub use laws::{
-    body_in_empty_word, cell_in_empty_word, cell_over_body, flat_gives_canonical,
-    flat_gives_own_order,
+    body_in_empty_word, cell_in_empty_word, cell_over_body, exact_words_stand,
+    flat_gives_canonical, flat_gives_own_order,
 };
+pub use stands::words_stand;

@@ -1,0 +1,210 @@
+-- What the test of a table of words tries is that the words name exactly, and lemmas for its loops.
+use Rattle.std.proofs.Common.{ℕ, ◌+◌, ◌*◌, ◌^◌, ◌<◌, ◌≤◌, ◌≡◌, ◌↔◌, zero, suc, refl, sym, ◌∙◌, ap, subst, inl, inr, arith, add-one, List, [], ◌∷◌, length, get_or, drop, take, Bool, true, false, IsTrue, eqb}
+use Rattle.std.proofs.lemmas.Bool.{cases_lt, eq-eqb, eqb-true, false≢true}
+use Rattle.octant_code.specs.Space.{Site, IsKey, IsUnder}
+use Rattle.std.proofs.Math.Nat.{pow-suc}
+use Rattle.octant_code.proofs.Keys.{pow8-mono}
+use Rattle.bh_model.proofs.Equal.{same_or_not}
+use Rattle.bh_model.specs.Bodies.{IsIn, NoneTwice, HasTwoUnder}
+use Rattle.tree_rule.specs.Words.{body_word, cell_word, child_place, key_place}
+use Rattle.tree_rule.specs.Flat.{Child, Top}
+use Rattle.tree_rule.specs.Standing.{ChildWord, IsCellKey, IsPublished, NamesExactly, RootWord}
+use Rattle.tree_rule.specs.Tested.{AreBelow, HasOtherUnder, IsChildWord, IsNamedSomewhere, IsRightCell, NamesRightly}
+use Rattle.tree_rule.proofs.Exact.{IsWord, Stands, exact_of_stands, shared_of_two, word_published}
+
+-- the parts of the test together
+pub record AllRight (site : ℕ → Site) (at : ℕ → ℕ) (cells bodies : List ℕ) : Type 0 where
+  pub none_twice : NoneTwice cells
+  pub root : NamesRightly site at cells bodies 1 (at 0)
+  pub cells_right : (c : ℕ) → IsIn cells c → IsRightCell site at cells bodies c
+  pub bodies_named : (n : ℕ) → IsIn bodies n → IsNamedSomewhere at cells (body_word n)
+
+-- each word of a key names rightly
+pub word_right : (site : ℕ → Site) (at : ℕ → ℕ) (cells bodies : List ℕ) → AllRight site at cells bodies
+    → (key w : ℕ) → IsWord at cells key w → NamesRightly site at cells bodies key w
+word_right site at cells bodies r key w (Top k e) =
+    subst (λ (x : ℕ). NamesRightly site at cells bodies x w) (sym k) (subst (λ (y : ℕ). NamesRightly site at cells bodies 1 y) (sym e) r.root)
+word_right site at cells bodies r key w (Child c j i l k e) =
+    subst (λ (x : ℕ). NamesRightly site at cells bodies x w) (sym k)
+    (subst (λ (y : ℕ). NamesRightly site at cells bodies (8 * at (key_place c) + j) y) (sym e) ((r.cells_right c i).children j l))
+
+-- where all parts are right, the words stand for the bodies
+pub stands_of_right : (site : ℕ → Site) (at : ℕ → ℕ) (cells bodies : List ℕ) → AllRight site at cells bodies → Stands site at cells bodies
+stands_of_right site at cells bodies r = record {
+  keys_differ = λ c d p q e. (r.cells_right c p).own_key d q e;
+  cell_named = λ c p.
+      let o = (r.cells_right c p).named in
+      let x = word_published at cells o.place o.key (cell_word c) o.published o.named in
+      subst (λ (y : ℕ). IsWord at cells y (cell_word c)) (sym ((word_right site at cells bodies r o.key (cell_word c) x).cell c refl).1) x;
+  names_cell = λ key c x. (word_right site at cells bodies r key (cell_word c) x).cell c refl;
+  body_named = λ n b.
+      let o = r.bodies_named n b in
+      let x = word_published at cells o.place o.key (body_word n) o.published o.named in
+      let f = (word_right site at cells bodies r o.key (body_word n) x).body n refl in
+      record {
+        level = f.1.0;
+        shallow = f.1.1;
+        named = subst (λ (y : ℕ). IsWord at cells y (body_word n)) f.1.2 x;
+      };
+  names_body = λ key n x. (word_right site at cells bodies r key (body_word n) x).body n refl;
+  shared = λ c p. let f = r.cells_right c p in shared_of_two site bodies (at (key_place c)) f.level f.two_under;
+}
+
+-- where all parts are right, the words name exactly
+pub exact_of_right : (site : ℕ → Site) (at : ℕ → ℕ) (cells bodies : List ℕ) → AllRight site at cells bodies → NamesExactly site at cells bodies
+exact_of_right site at cells bodies r = exact_of_stands site at cells bodies (stands_of_right site at cells bodies r) r.none_twice
+
+-- a published word names rightly where the words name exactly
+pub right_word : (site : ℕ → Site) (at : ℕ → ℕ) (cells bodies : List ℕ) → NamesExactly site at cells bodies
+    → (place key : ℕ) → IsPublished at cells place key → NamesRightly site at cells bodies key (at place)
+right_word site at cells bodies h place key p = record { cell = λ c e. h.names_cell place key c p e; body = λ n e. h.names_body place key n p e }
+
+-- each cell is right where the words name exactly
+pub right_cell : (site : ℕ → Site) (at : ℕ → ℕ) (cells bodies : List ℕ) → NamesExactly site at cells bodies → (c : ℕ) → IsIn cells c → IsRightCell site at cells bodies c
+right_cell site at cells bodies h c p =
+    let o = h.cell_once c p in
+    record {
+      level = h.levels c p;
+      own_key = λ d q e. h.keys_differ c d p q e;
+      two_under = h.two_under c p;
+      named = record { place = o.place; key = o.key; published = o.published; named = o.named };
+      children = λ k l. right_word site at cells bodies h (child_place c k) (8 * at (key_place c) + k) (ChildWord c k p l refl refl);
+    }
+
+-- each body is named where the words name exactly
+pub right_body : (site : ℕ → Site) (at : ℕ → ℕ) (cells bodies : List ℕ) → NamesExactly site at cells bodies → (n : ℕ) → IsIn bodies n → IsNamedSomewhere at cells (body_word n)
+right_body site at cells bodies h n b = let o = h.body_once n b in record { place = o.place; key = o.key; published = o.published; named = o.named }
+
+-- where the words name exactly, all parts are right
+pub right_of_exact : (site : ℕ → Site) (at : ℕ → ℕ) (cells bodies : List ℕ) → NamesExactly site at cells bodies → AllRight site at cells bodies
+right_of_exact site at cells bodies h = record {
+  none_twice = h.none_twice;
+  root = right_word site at cells bodies h 0 1 (RootWord refl refl);
+  cells_right = right_cell site at cells bodies h;
+  bodies_named = right_body site at cells bodies h;
+}
+
+-- the number at a place of a list is a member
+pub member_at : (xs : List ℕ) (k : ℕ) → k < length xs → IsIn xs (get_or xs k 0)
+member_at [] k l = absurd (omega arith)
+member_at (x ∷ xs) zero l = inl refl
+member_at (x ∷ xs) (suc k) l = inr (member_at xs k (omega arith))
+
+-- what holds of the number at each place holds of each member
+pub each_member : (P : ℕ → Type 0) (xs : List ℕ) → ((k : ℕ) → k < length xs → P (get_or xs k 0)) → (n : ℕ) → IsIn xs n → P n
+each_member P [] h n i = absurd i
+each_member P (x ∷ xs) h n (inl e) = subst P (sym e) (h zero (omega arith))
+each_member P (x ∷ xs) h n (inr i) = each_member P xs (λ k l. h (suc k) (omega arith)) n i
+
+-- a list without repeats has none from a place on
+pub rest_once : (xs : List ℕ) (k : ℕ) → NoneTwice xs → k < length xs → IsIn (drop (suc k) xs) (get_or xs k 0) → ⊥
+rest_once [] k d l i = absurd (omega arith)
+rest_once (x ∷ xs) zero d l i = d.0 i
+rest_once (x ∷ xs) (suc k) d l i = rest_once xs k d.1 (omega arith) i
+
+-- a list in which no number stands again later has none twice
+pub once_of_rest : (xs : List ℕ) → ((k : ℕ) → k < length xs → IsIn (drop (suc k) xs) (get_or xs k 0) → ⊥) → NoneTwice xs
+once_of_rest [] h = tt
+once_of_rest (x ∷ xs) h = (h zero (omega arith), once_of_rest xs (λ k l. h (suc k) (omega arith)))
+
+-- the answer true, where it is so
+pub true_where : (P : Type 0) → P → IsTrue true ↔ P
+true_where P p = ((λ e. p), (λ q. refl))
+
+-- the answer false, where it isn't so
+pub false_where : (P : Type 0) → (P → ⊥) → IsTrue false ↔ P
+false_where P h = ((λ e. absurd (false≢true e)), (λ p. absurd (h p)))
+
+-- what an answer false denies isn't so
+pub denied : (P : Type 0) → IsTrue false ↔ P → P → ⊥
+denied P h p = false≢true (h.1 p)
+
+-- an answer about one fact is that about another of the same truth
+pub answer_same : (b : Bool) (P Q : Type 0) → IsTrue b ↔ P → (P → Q) → (Q → P) → IsTrue b ↔ Q
+answer_same b P Q h f g = ((λ e. f (h.0 e)), (λ q. h.1 (g q)))
+
+-- a list in which no number stands again after its place has none twice
+pub once_of_later : (xs : List ℕ) → ((k : ℕ) → k < length xs → IsIn (drop (k + 1) xs) (get_or xs k 0) → ⊥) → NoneTwice xs
+once_of_later xs h = once_of_rest xs (λ k l i. h k l (subst (λ (m : ℕ). IsIn (drop m xs) (get_or xs k 0)) (sym (add-one k)) i))
+
+-- a list in which a number stands again after its place has one twice
+pub not_once : (xs : List ℕ) (k : ℕ) → k < length xs → IsIn (drop (k + 1) xs) (get_or xs k 0) → NoneTwice xs → ⊥
+not_once xs k l i d = rest_once xs k d l (subst (λ (m : ℕ). IsIn (drop m xs) (get_or xs k 0)) (add-one k) i)
+
+-- where one body lies under a key, two do where another does
+pub two_of_other : (site : ℕ → Site) (bodies : List ℕ) (key x : ℕ) → IsIn bodies x → IsUnder key (site x) → HasOtherUnder site bodies key x → HasTwoUnder site bodies key
+two_of_other site bodies key x i u h = record { one = x; other = h.other; one_in = i; other_in = h.other_in; differ = h.differ; one_under = u; other_under = h.other_under }
+
+-- of two bodies under a key one is another than a given one
+pub other_of_two : (site : ℕ → Site) (bodies : List ℕ) (key x : ℕ) → HasTwoUnder site bodies key → HasOtherUnder site bodies key x
+other_of_two site bodies key x t = elim (same_or_not x t.one) [
+  | inl e ↦ record { other = t.other; other_in = t.other_in; differ = λ f. t.differ (sym e ∙ f); other_under = t.other_under }
+  | inr d ↦ record { other = t.one; other_in = t.one_in; differ = d; other_under = t.one_under }
+]
+
+-- a child word of a published cell is published
+pub named_by_child : (at : ℕ → ℕ) (cells : List ℕ) (c w : ℕ) → IsIn cells c → IsChildWord at c w → IsNamedSomewhere at cells w
+named_by_child at cells c w i h = record {
+  place = child_place c h.child;
+  key = 8 * at (key_place c) + h.child;
+  published = ChildWord c h.child i h.small refl refl;
+  named = h.named;
+}
+
+-- a word is not published that is neither the root word nor a child word of a cell of the list
+pub not_published : (at : ℕ → ℕ) (cells : List ℕ) (w place key : ℕ) → (at 0 ≡ w → ⊥) → ((k : ℕ) → k < length cells → IsChildWord at (get_or cells k 0) w → ⊥)
+    → IsPublished at cells place key → at place ≡ w → ⊥
+not_published at cells w place key r h (RootWord p k) e = r (ap at (sym p) ∙ e)
+not_published at cells w place key r h (ChildWord c j i l p k) e =
+    each_member (λ y. IsChildWord at y w → ⊥) cells h c i (record { child = j; small = l; named = ap at (sym p) ∙ e })
+
+-- the keys of a cell's children are those of cubes
+pub child_key : (key k : ℕ) → IsCellKey key → k < 8 → IsKey (8 * key + k)
+child_key key k l s = (suc l.0, omega (arith, l.1), omega (arith, l.2, pow-suc 8 l.0), omega (arith, l.3, pow-suc 8 l.0))
+
+-- a cell's key is below 2 ^ 61
+pub cell_key_small : (key : ℕ) → IsCellKey key → key < 2 ^ 61
+cell_key_small key l = omega (arith, l.3, pow8-mono l.0 20 l.1)
+
+-- a cell's key is that of a cube
+pub cell_key_is_key : (key : ℕ) → IsCellKey key → IsKey key
+cell_key_is_key key l = (l.0, omega (arith, l.1), l.2, l.3)
+
+-- no key of a cell is below the least of a level, where it isn't one of a level above
+pub no_key_below : (key i : ℕ) → key < 8 ^ i → ((k : ℕ) → k < i → 2 * 8 ^ k ≤ key) → IsCellKey key → ⊥
+no_key_below key i s h l = elim (cases_lt l.0 i) [ inl r ↦ omega (arith, h l.0 r, l.3) | inr r ↦ omega (arith, pow8-mono i l.0 r, l.2, s) ]
+
+-- an answer about a body's point is one about the body
+pub under_same : (key : ℕ) (s t : Site) → s ≡ t → IsUnder key s → IsUnder key t
+under_same key s t e u = subst (λ (x : Site). IsUnder key x) e u
+
+-- the answer about the key of a cell that was found
+pub cell_found : (at : ℕ → ℕ) (cells : List ℕ) (c n v key : ℕ) → c ≡ n → IsIn cells c → v ≡ at (key_place c) → IsTrue (eqb v key) ↔ (IsIn cells n × (at (key_place n) ≡ key))
+cell_found at cells c n v key e i f = (
+  (λ t. (subst (IsIn cells) e i, subst (λ (x : ℕ). at (key_place x) ≡ key) e (sym f ∙ eqb-true v key t))),
+  (λ q. eq-eqb v key (f ∙ subst (λ (x : ℕ). at (key_place x) ≡ key) (sym e) q.1)),
+)
+
+-- the answer about the point of a body that was found
+pub body_found : (b : Bool) (site : ℕ → Site) (bodies : List ℕ) (x n key : ℕ) (s : Site) → x ≡ n → IsIn bodies x → s ≡ site x → IsTrue b ↔ IsUnder key s
+    → IsTrue b ↔ (IsIn bodies n × IsUnder key (site n))
+body_found b site bodies x n key s e i f h = (
+  (λ t. (subst (IsIn bodies) e i, under_same key s (site n) (f ∙ ap site e) (h.0 t))),
+  (λ q. h.1 (under_same key (site n) s (sym (f ∙ ap site e)) q.1)),
+)
+
+-- a member of a front of a list is one of the list
+pub in_front : (m : ℕ) (xs : List ℕ) (n : ℕ) → IsIn (take m xs) n → IsIn xs n
+in_front zero xs n i = absurd i
+in_front (suc m) [] n i = absurd i
+in_front (suc m) (x ∷ xs) n (inl e) = inl e
+in_front (suc m) (x ∷ xs) n (inr i) = inr (in_front m xs n i)
+
+-- the answer of the whole test
+pub whole_answer : (b : Bool) (m : ℕ) (site : ℕ → Site) (at : ℕ → ℕ) (cells bodies : List ℕ) → AreBelow m bodies → NoneTwice cells → NamesRightly site at cells bodies 1 (at 0)
+    → ((c : ℕ) → IsIn cells c → IsRightCell site at cells bodies c) → IsTrue b ↔ ((n : ℕ) → IsIn bodies n → IsNamedSomewhere at cells (body_word n))
+    → IsTrue b ↔ (AreBelow m bodies × NamesExactly site at cells bodies)
+whole_answer b m site at cells bodies below once root right h = (
+  (λ t. (below, exact_of_right site at cells bodies (record { none_twice = once; root = root; cells_right = right; bodies_named = h.0 t }))),
+  (λ q. h.1 (right_body site at cells bodies q.1)),
+)
