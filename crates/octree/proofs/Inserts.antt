@@ -3,9 +3,10 @@ use Rattle.std.proofs.Common.{ℕ, ◌+◌, ◌*◌, ◌/◌, ◌<◌, ◌≤◌
 use Rattle.std.proofs.lemmas.List.{get_or_read}
 use Rattle.bh_model.specs.Bodies.{IsIn, NoneTwice}
 use Rattle.bh_model.specs.Trees.{octree}
+use Rattle.octree.proofs.Locks.{unlocked_at_place}
 use Rattle.octree.proofs.Words.{at_set_other, at_set_same, set_length}
 use Rattle.octree.specs.Chain.{IsOneOf, IsTaken}
-use Rattle.octree.specs.Stored.{IsBlankFrom, IsCanonical, IsInserted, IsStored, StandsWell, Stored, tree_of}
+use Rattle.octree.specs.Stored.{AreUnlocked, IsBlankFrom, IsCanonical, IsInserted, IsStored, StandsWell, Stored, tree_of}
 use Rattle.tree_rule.proofs.Canonical.{ACell, NoBody, OneBody, flat_gives_canonical, word_is}
 use Rattle.tree_rule.proofs.Graft.{Grafts, graft, key_apart, word_at_place}
 use Rattle.tree_rule.proofs.Parts.{Nothing, Only, stands_body}
@@ -150,6 +151,7 @@ done_empty sites o n place level v h canon n_in size there inside shallow empty 
         base_high = h.base_high;
         sound = sound_of_stands (site_at sites) (at_of after) (at_of after 0) o.base (HasCell after) (HasBody after) g.stands;
         blank = λ i l. at_set_other o.words place i v (λ e. omega arith) ∙ h.blank i l;
+        unlocked = unlocked_at_place o.words (at_of o.words) o.base (HasCell o.words) key place v h.unlocked there;
         cells_used = λ c p. elim ((g.cells c).0 p) [ inl q ↦ h.cells_used c q | inr q ↦ absurd q ];
         bodies_small = λ m b. elim ((g.bodies m).0 b) [ inl q ↦ h.bodies_small m q | inr q ↦ omega arith ];
       };
@@ -171,10 +173,10 @@ done_empty sites o n place level v h canon n_in size there inside shallow empty 
 -- the word of a body was found at a level, and the two bodies were parted
 pub done_body : (sites : List Site) (o : Stored) (next : List ℕ) (x n place level to v : ℕ) → IsStored o → IsCanonical sites o → n < length sites → length sites ≤ 65536
     → IsPlaceOf (at_of o.words) 0 o.base (HasCell o.words) (key_of (site_at sites n) level) place → place < length o.words → at_of o.words place ≡ body_word x
-    → length next ≡ length o.words → ((i : ℕ) → i < 3 + 10 * o.used → at_of next i ≡ at_of o.words i) → IsBlankFrom next to → o.used < to → to ≤ o.used + 21 → to ≤ o.held
+    → length next ≡ length o.words → ((i : ℕ) → i < 3 + 10 * o.used → at_of next i ≡ at_of o.words i) → IsBlankFrom next to → AreUnlocked next → o.used < to → to ≤ o.used + 21 → to ≤ o.held
     → StandsFor (site_at sites) (at_of next) (cell_word o.used) (key_of (site_at sites n) level) (IsTaken o.used to) (IsOneOf x n) → v ≡ cell_word o.used
     → IsDone sites n o (with_words o (slice_set next place v) to)
-done_body sites o next x n place level to v h canon n_in size there inside body len kept blank more few fits sub is =
+done_body sites o next x n place level to v h canon n_in size there inside body len kept blank unlocked more few fits sub is =
     let key : ℕ = key_of (site_at sites n) level in
     let g = insert_body sites o.words next o.base key place o.used to x n v (stands_of sites o h canon) h.cells_used kept there (omega (arith, len)) body sub is in
     let low : place < 3 + 10 * o.used = place_used o.words o.base key place o.used h.cells_used there in
@@ -195,6 +197,7 @@ done_body sites o next x n place level to v h canon n_in size there inside body 
         base_high = h.base_high;
         sound = sound_of_stands (site_at sites) (at_of after) (at_of after 0) o.base (HasCell after) (HasBody after) g.stands;
         blank = λ i l. at_set_other next place i v (λ e. omega arith) ∙ blank i l;
+        unlocked = unlocked_at_place next (at_of o.words) o.base (HasCell o.words) key place v unlocked there;
         cells_used = λ c p. elim ((g.cells c).0 p) [ inl q ↦ omega (arith, h.cells_used c q) | inr q ↦ q.1 ];
         bodies_small = λ m b. elim (split m ((g.bodies m).0 b)) [ inl q ↦ h.bodies_small m q | inr q ↦ omega arith ];
       };
@@ -306,13 +309,13 @@ body_case sites before o n place level word h f some =
 
 -- and the cells that part the two take its place
 pub parted_case : (sites : List Site) (before o : Stored) (next : List ℕ) (n place level word to v : ℕ) → CanInsert sites before o n → Found sites o n place level word → word ≢ 0
-    → length next ≡ length o.words → ((i : ℕ) → i < 3 + 10 * o.used → at_of next i ≡ at_of o.words i) → IsBlankFrom next to → o.used < to → to ≤ o.used + 21 → to ≤ o.held
+    → length next ≡ length o.words → ((i : ℕ) → i < 3 + 10 * o.used → at_of next i ≡ at_of o.words i) → IsBlankFrom next to → AreUnlocked next → o.used < to → to ≤ o.used + 21 → to ≤ o.held
     → StandsFor (site_at sites) (at_of next) (cell_word o.used) (key_of (site_at sites n) level) (IsTaken o.used to) (IsOneOf (word / 2) n) → v ≡ cell_word o.used
     → IsDone sites n before (with_words o (slice_set next place v) to)
-parted_case sites before o next n place level word to v h f some len kept blank more few fits sub is =
+parted_case sites before o next n place level word to v h f some len kept blank unlocked more few fits sub is =
     subst (λ (y : Stored). IsDone sites n y (with_words o (slice_set next place v) to)) h.value
     (done_body sites o next (word / 2) n place level to v h.stored (canonical_now sites before o n h) h.n_in h.rule.few (there_now sites before o n place level word h f) f.inside
-    (body_case sites before o n place level word h f some).named len kept blank more few fits sub is)
+    (body_case sites before o n place level word h f some).named len kept blank unlocked more few fits sub is)
 
 -- a canonical octree of the whole cube has the canonical tree of any list of its bodies
 pub tree_is : (sites : List Site) (o : Stored) → IsStored o → IsCanonical sites o → o.base ≡ 1

@@ -1,11 +1,14 @@
-mod Words
+pub mod Words
 mod ReadWords
+mod Locks
 mod Chains
 mod Descends
 mod Inserts
-mod Texts
+pub mod Texts
 mod Orders
 mod Counts
 mod Depths
 pub mod Roomier
+mod WholeWords
 mod Builds
+pub mod Reading

@@ -2,7 +2,7 @@
 use Rattle.std.proofs.Common.{inl, inr, ℕ, ◌+◌, ◌*◌, ◌^◌, ◌<◌, ◌≤◌, ◌≡◌, sym, ◌∙◌, ap, subst, arith, List, length, replicate, slice_index_or}
 use Rattle.std.proofs.lemmas.Bool.{cases_lt}
 use Rattle.std.proofs.lemmas.List.{get_or-replicate, get_or_past, length-replicate, get_or_read}
-use Rattle.octree.specs.Stored.{IsStored, Stored}
+use Rattle.octree.specs.Stored.{IsStored, Stored, lock_place}
 use Rattle.tree_rule.proofs.Canonical.{ACell, NoBody, OneBody, word_is}
 use Rattle.tree_rule.proofs.Sound.{forget}
 use Rattle.tree_rule.specs.Sound.{IsReachedAs, IsSound}
@@ -60,6 +60,7 @@ empty_stored words cells h e =
       base_low = omega arith;
       base_high = omega arith;
       blank = λ i l. blank i;
+      unlocked = record { second = blank 1; third = blank 2; locks = λ c. blank (lock_place c) };
       sound = sound_blank (at_of words) (at_of words 0) 1 (blank 0);
       cells_used = λ c p. absurd (omega (arith, reached_blank (at_of words) (at_of words 0) (cell_word c) (blank 0) p));
       bodies_small = λ n p. absurd (omega (arith, reached_blank (at_of words) (at_of words 0) (body_word n) (blank 0) p));

@@ -4,7 +4,7 @@ use Rattle.std.proofs.lemmas.Bool.{cases_lt}
 use Rattle.std.proofs.lemmas.List.{get_or_past}
 use mathlib.Core.Path.{fun_ext}
 use Rattle.octant_code.specs.Space.{Site}
-use Rattle.octree.specs.Stored.{IsCanonical, IsRoomier, IsStored, Stored}
+use Rattle.octree.specs.Stored.{IsCanonical, IsRoomier, IsStored, Stored, lock_place}
 use Rattle.tree_rule.specs.Words.{HasBody, IsReached, at_of, body_word, cell_word}
 use Rattle.tree_rule.specs.Sound.{BodiesUnder, IsSound}
 use Rattle.octant_code.specs.Points.{site_at}
@@ -35,6 +35,11 @@ roomier_stored o words held h same long more few = record {
   base_low = h.base_low;
   base_high = h.base_high;
   blank = λ i l. ap (λ (at : ℕ → ℕ). at i) same ∙ h.blank i l;
+  unlocked = record {
+    second = ap (λ (at : ℕ → ℕ). at 1) same ∙ h.unlocked.second;
+    third = ap (λ (at : ℕ → ℕ). at 2) same ∙ h.unlocked.third;
+    locks = λ c. ap (λ (at : ℕ → ℕ). at (lock_place c)) same ∙ h.unlocked.locks c;
+  };
   sound = subst (λ (at : ℕ → ℕ). IsSound at (at 0) o.base) (sym same) h.sound;
   cells_used = λ c r. h.cells_used c (subst (λ (at : ℕ → ℕ). IsReached at (at 0) (cell_word c)) same r);
   bodies_small = λ n r. h.bodies_small n (subst (λ (at : ℕ → ℕ). IsReached at (at 0) (body_word n)) same r);

@@ -1,3 +1,4 @@
 pub mod Stored
 pub mod Node
 pub mod Chain
+pub mod Reading

@@ -1,5 +1,5 @@
 -- An octree as it is stored: its words, the key and the level of its cube, and how many of its cells are used and held.
-use Rattle.std.specs.Prelude.{ℕ, ◌+◌, ◌-◌, ◌*◌, ◌^◌, ◌<◌, ◌≤◌, ◌≡◌, ◌⊎◌, ◌↔◌, List, length}
+use Rattle.std.specs.Prelude.{ℕ, ◌+◌, ◌-◌, ◌*◌, ◌/◌, ◌^◌, ◌<◌, ◌≤◌, ◌≡◌, ◌⊎◌, ◌↔◌, List, length}
 use Rattle.octant_code.specs.Space.{Site}
 use Rattle.octant_code.specs.Points.{site_at}
 use Rattle.bh_model.specs.Trees.{Tree}
@@ -39,6 +39,16 @@ StandsWell sites words base = StandsFor (site_at sites) (at_of words) (at_of wor
 abbrev pub IsBlankFrom : List ℕ → ℕ → Type 0
 IsBlankFrom words used = (i : ℕ) → 3 + 10 * used ≤ i → at_of words i ≡ 0
 
+-- the place of a cell's lock
+abbrev pub lock_place : ℕ → ℕ
+lock_place c = 12 + 10 * c
+
+-- the two words behind the root's and the words of all locks are 0
+pub record AreUnlocked (words : List ℕ) : Type 0 where
+  pub second : at_of words 1 ≡ 0
+  pub third : at_of words 2 ≡ 0
+  pub locks : (c : ℕ) → at_of words (lock_place c) ≡ 0
+
 -- what every octree keeps
 pub record IsStored (o : Stored) : Type 0 where
   pub few : o.held ≤ 1376256
@@ -48,9 +58,28 @@ pub record IsStored (o : Stored) : Type 0 where
   pub base_low : 8 ^ o.level ≤ o.base
   pub base_high : o.base < 2 * 8 ^ o.level
   pub blank : IsBlankFrom o.words o.used
+  pub unlocked : AreUnlocked o.words
   pub sound : IsSound (at_of o.words) (at_of o.words 0) o.base
   pub cells_used : (c : ℕ) → HasCell o.words c → c < o.used
   pub bodies_small : (n : ℕ) → HasBody o.words n → n < 65536
+
+-- The words are those of an octree of the whole cube, all of whose cells count as used.
+pub record AreOctreeWords (words : List ℕ) : Type 0 where
+  pub cells : ℕ
+  pub few : cells ≤ 1376256
+  pub long : length words ≡ 3 + 10 * cells
+  pub unlocked : AreUnlocked words
+  pub sound : IsSound (at_of words) (at_of words 0) 1
+  pub cells_held : (c : ℕ) → HasCell words c → c < cells
+  pub bodies_small : (n : ℕ) → HasBody words n → n < 65536
+
+-- the octree of the whole cube that has the words, and no spare cell
+abbrev pub full_tree : List ℕ → Stored
+full_tree words = record { words = words; base = 1; level = 0; used = (length words - 3) / 10; held = (length words - 3) / 10 }
+
+-- an octree, its spare cells counted as used
+abbrev pub all_used : Stored → Stored
+all_used o = record { words = o.words; base = o.base; level = o.level; used = o.held; held = o.held }
 
 -- the octree is the canonical one of its bodies at the sites of a list: each body's point lies under the key of its word
 pub record IsCanonical (sites : List Site) (o : Stored) : Type 0 where

@@ -5,7 +5,7 @@ ghost use Rattle.octant_code.specs.Space.{key_of};
 ghost use Rattle.octant_code.specs.Points.{site_at, ArePoints};
 ghost use Rattle.tree_rule.specs.Words.{at_of, cell_word};
 ghost use Rattle.tree_rule.specs.Flat.{StandsFor};
-ghost use Rattle.octree.specs.Stored.{IsBlankFrom};
+ghost use Rattle.octree.specs.Stored.{AreUnlocked, IsBlankFrom};
 ghost use Rattle.octree.specs.Chain.{IsOneOf, IsTaken};
 
 use octant_code::{Points, octant};
@@ -24,6 +24,7 @@ pub fn part_two(words: &mut Vec<u64>, used: u32, points: &Points, x: u32, n: u32
     requires few { used + (21 - cube.level) ≤ 1376256 }
     requires room { 3 + 10 * (used + (21 - cube.level)) ≤ length words.old.items }
     requires blank { IsBlankFrom words.old.items used }
+    requires unlocked { AreUnlocked words.old.items }
     requires rule { ArePoints points.now }
     requires x_in { x < length points.now }
     requires n_in { n < length points.now }
@@ -33,6 +34,7 @@ pub fn part_two(words: &mut Vec<u64>, used: u32, points: &Points, x: u32, n: u32
     ensures len { length words.new.items ≡ length words.old.items }
     ensures kept { (i : ℕ) → i < 3 + 10 * used → at_of words.new.items i ≡ at_of words.old.items i }
     ensures blank { IsBlankFrom words.new.items result }
+    ensures unlocked { AreUnlocked words.new.items }
     ensures more { used < result }
     ensures few { result ≤ used + (21 - cube.level) }
     ensures stands { StandsFor (site_at points.now) (at_of words.new.items) (cell_word used) (key_of (site_at points.now n) cube.level) (IsTaken used result) (IsOneOf x n) }

@@ -22,9 +22,10 @@ const CELLS_OF_ONE: u32 = 21;
 const FIRST_CELLS: u32 = 1024;
 
 /// The octree of the bodies of a cube, kept in words: the word that names the root, two words that
-/// are not used, and for each cell the words of its eight children, its key and a word that is not
-/// used. A word is 0 for nothing, 2n + 1 for body n, and 2c + 2 for cell c (Barnes and Hut,
-/// Nature 324, 1986; the words are this project's own).
+/// are not used, and for each cell the words of its eight children, its key and its lock. A word is
+/// 0 for nothing, 2n + 1 for body n, and 2c + 2 for cell c (Barnes and Hut, Nature 324, 1986; the
+/// words are this project's own). The words that are not used and the locks are 0: only builders of
+/// shared trees write them.
 ///
 /// Contracts see it as `Stored`: its words, the key and the level of its cube, and how many of its
 /// cells are used and held.
@@ -52,12 +53,13 @@ impl Octree {
     ghost use Rattle.octant_code.specs.Space.{Site, IsUnder};
     ghost use Rattle.octant_code.specs.Points.{site_at};
     ghost use Rattle.bh_model.specs.Bodies.{IsIn, NoneTwice, numbers};
-    ghost use Rattle.bh_model.specs.Trees.{depth, octree, order, text};
+    ghost use Rattle.bh_model.specs.Trees.{cell_count, depth, octree, order, text};
     ghost use Rattle.bh_outside.specs.Outside.{HasCause, Writes};
     ghost use Rattle.bh_outside.specs.Text.{Puts};
     ghost use Rattle.tree_rule.specs.Words.{at_of, child_place, HasBody, HasCell};
     ghost use Rattle.octree.specs.Node.{IsNodeOf};
-    ghost use Rattle.octree.specs.Stored.{IsCanonical, IsInserted, IsRoomier, cells_of, root_word, spare_of, tree_of};
+    ghost use Rattle.octree.specs.Stored.{AreOctreeWords, IsCanonical, IsInserted, IsRoomier, IsStored, all_used, cells_of, full_tree, root_word, spare_of, tree_of};
+    ghost use Rattle.octree.specs.Reading.{IsOctreeOf};
 
     /// The empty tree of the whole cube, with spare cells: at most 1,376,256.
     pub fn empty(alloc: Global, cells: u32) -> Result<Octree, OutOfMemory>
@@ -77,6 +79,48 @@ impl Octree {
                 held: cells,
             }),
             Err(_) => Err(OutOfMemory),
+        }
+    }
+
+    /// How many cells the octree has, reachable or not, the spare ones among them. The numbers of its
+    /// cells are below.
+    pub fn held(&self) -> u32
+        ensures value { result ≡ self.now.held }
+        ensures rule { IsStored self.now }
+    {
+        self.held
+    }
+
+    /// The words of a tree of the whole cube. It takes no memory.
+    ///
+    /// Made a tree again by `of_words`, they are this tree, its spare cells counted as used.
+    pub fn into_words(self) -> Vec<u64>
+        requires { self.base ≡ 1 }
+        ensures words { result.items ≡ self.words }
+        ensures count { length result.items ≡ 3 + 10 * self.held }
+        ensures rule { IsStored self }
+        ensures of_words { AreOctreeWords result.items }
+        ensures tree { full_tree result.items ≡ all_used self }
+    {
+        let Octree { words, .. } = self;
+        words
+    }
+
+    /// The tree of the whole cube that has the words, each cell with the number that it has there. It
+    /// has no spare cell, and takes no memory.
+    pub fn of_words(words: Vec<u64>) -> Octree
+        requires { AreOctreeWords words.items }
+        ensures tree { result ≡ full_tree words.items }
+        ensures count { length words.items ≡ 3 + 10 * result.held }
+        ensures full { spare_of result ≡ 0 }
+    {
+        let held = ((words.len() - 3) / 10) as u32;
+        Octree {
+            words,
+            base: 1,
+            level: 0,
+            used: held,
+            held,
         }
     }
 
@@ -166,8 +210,7 @@ impl Octree {
     /// The canonical octree of all points of a list, each body by its point's number, made by
     /// inserting one body after another.
     pub fn of_points(alloc: Global, points: &Points) -> Result<Octree, OutOfMemory>
-        ensures canonical { IfOk result (λ t. IsCanonical points.now t) }
-        ensures tree { IfOk result (λ t. tree_of t ≡ octree (site_at points.now) (numbers (length points.now))) }
+        ensures { IfOk result (λ t. IsOctreeOf points.now t) }
     {
         let count = points.len();
         let mut tree = Octree::empty(alloc, FIRST_CELLS.min(CELLS_OF_ONE * count))?;
@@ -181,7 +224,8 @@ impl Octree {
 
     /// How many cells can be reached.
     pub fn cells(&self) -> u32
-        ensures { result ≡ length (cells_of self.now) }
+        ensures numbers { result ≡ length (cells_of self.now) }
+        ensures tree { result ≡ cell_count (tree_of self.now) }
     {
         count_cells(&self.words, self.words[0], 22, 0)
     }

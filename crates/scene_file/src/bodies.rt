@@ -33,7 +33,7 @@ impl Model for Bodies {
 }
 
 impl Bodies {
-    ghost use Rattle.std.specs.Prelude.{◌≡◌, ◌<◌, IfOk, length};
+    ghost use Rattle.std.specs.Prelude.{◌≡◌, ◌<◌, All, IfOk, length};
     ghost use Rattle.octant_code.specs.Space.{IsInCube};
     ghost use Rattle.scene_file.specs.Bodies.{AreBodies, body_at, sites_of};
 
@@ -62,6 +62,15 @@ impl Bodies {
         let body = self.list[n as usize];
         let _x = body.at.x;
         body
+    }
+
+    /// Each body's point lies in the cube: what one look at each of them tells.
+    pub fn all_in_cube(&self)
+        ensures { All IsInCube (sites_of self.now) }
+    {
+        for n in 0..self.len() {
+            let _body = self.get(n);
+        }
     }
 
     /// The bodies' points, in the order of the bodies' numbers.

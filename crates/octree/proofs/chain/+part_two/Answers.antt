@@ -1,8 +1,10 @@
-use Rattle.std.proofs.Common.{arith, ◌≡◌, ◌+◌, ◌*◌, ◌<◌, ap, sym, subst, ◌∙◌, add-one}
+use Rattle.std.proofs.Common.{arith, ◌≡◌, ◌+◌, ◌*◌, ◌<◌, ap, sym, subst, ◌∙◌, add-one, slice_set}
+use Rattle.octree.specs.Stored.{AreUnlocked}
 use Rattle.octant_code.specs.Space.{IsInCube, Site, key_of, octant_of}
 use Rattle.octant_code.specs.Points.{site_at}
 use Rattle.octant_code.proofs.Keys.{key-next-fits, key-suc}
 use Rattle.octree.proofs.Chains.{forked, key_deeper, level_deeper, linked}
+use Rattle.octree.proofs.Locks.{unlocked_in_cell}
 use Rattle.octree.proofs.Words.{at_set_other, set_length}
 use Rattle.octree.proofs.chain.+part_two.Goals as goal
 
@@ -35,16 +37,19 @@ part_two-next-requires t c =
             (
               (λ i l. at_set_other ws (3 + 10 * c.args.used + 8) i key (λ h. omega arith) ∙ c.requires.blank i (omega arith)),
               (
-                c.requires.rule,
+                unlocked_in_cell ws c.args.used 8 key c.requires.unlocked (omega arith),
                 (
-                  c.requires.x_in,
+                  c.requires.rule,
                   (
-                    c.requires.n_in,
+                    c.requires.x_in,
                     (
-                      c.requires.differ,
+                      c.requires.n_in,
                       (
-                        rw add-one (omega (arith, key-suc (site_at sites c.args.n) c.args.cube.level, c.requires.key, on, c.from.ensures)),
-                        rw add-one (key_deeper sites c.args.x c.args.n c.args.cube.level c.requires.together same),
+                        c.requires.differ,
+                        (
+                          rw add-one (omega (arith, key-suc (site_at sites c.args.n) c.args.cube.level, c.requires.key, on, c.from.ensures)),
+                          rw add-one (key_deeper sites c.args.x c.args.n c.args.cube.level c.requires.together same),
+                        ),
                       ),
                     ),
                   ),
@@ -62,6 +67,10 @@ returns-then-a-b-clause-kept t c = λ i l.
     ∙ c.part_two-next.ensures.kept i (omega arith)
     ∙ at_set_other c.args.words.now.items (3 + 10 * c.args.used + 8) i c.args.cube.key (λ h. omega arith)
 
+pub returns-then-a-b-clause-unlocked : goal.returns-then-a-b-clause-unlocked
+returns-then-a-b-clause-unlocked t c =
+    unlocked_in_cell c.part_two-next.new.words.items c.args.used c.octant-a.result (2 * c.from-then-a-b.result + 2) c.part_two-next.ensures.unlocked (omega (arith, c.octant-a.ensures.small))
+
 pub returns-then-a-b-clause-stands : goal.returns-then-a-b-clause-stands
 returns-then-a-b-clause-stands t c =
     let sites = c.args.points.now in
@@ -72,6 +81,17 @@ returns-then-a-b-clause-stands t c =
     linked (site_at sites) c.args.words.now.items c.part_two-next.new.words.items c.args.used c.part_two-next.result c.octant-a.result c.args.cube.key c.args.cube.level c.args.x c.args.n
     (2 * c.from-then-a-b.result + 2) c.part_two-next.ensures.len c.part_two-next.ensures.kept c.requires.blank (omega (arith, room, c.requires.shallow)) c.part_two-next.ensures.more
     c.requires.shallow c.requires.differ c.requires.together key_is on (omega (arith, c.from-then-a-b.ensures)) c.part_two-next.ensures.stands
+
+pub returns-else-a-b-clause-unlocked : goal.returns-else-a-b-clause-unlocked
+returns-else-a-b-clause-unlocked t c =
+    let ws = c.args.words.now.items in
+    let used = c.args.used in
+    let v = 2 * c.from-else-a-b.result + 1 in
+    let first = slice_set ws (3 + 10 * used + 8) c.args.cube.key in
+    let second = slice_set first (3 + 10 * used + c.octant-a.result) v in
+    let keyed : AreUnlocked first = unlocked_in_cell ws used 8 c.args.cube.key c.requires.unlocked (omega arith) in
+    let one : AreUnlocked second = unlocked_in_cell first used c.octant-a.result v keyed (omega (arith, c.octant-a.ensures.small)) in
+    unlocked_in_cell second used c.octant-b.result (2 * c.from-else-a-b-2.result + 1) one (omega (arith, c.octant-b.ensures.small))
 
 pub returns-else-a-b-clause-stands : goal.returns-else-a-b-clause-stands
 returns-else-a-b-clause-stands t c =

@@ -107,7 +107,7 @@ invariant_of-self-else-word-eq0 c =
     let room : f.used + 21 ≤ f.held = subst (λ (y : Stored). y.used + 21 ≤ y.held) (sym c.self.view_is) (omega (arith, c.requires.room)) in
     let done : IsDone sites c.args.n c.args.self.now (stored (slice_set part.new.words.items spot.result.place v) f.base f.level part.result f.held) =
     parted_case sites c.args.self.now o part.new.words.items c.args.n spot.result.place spot.result.level c.index-word.result.now part.result v can found c.if-word-eq0.false
-    part.ensures.len part.ensures.kept part.ensures.blank part.ensures.more (omega (arith, part.ensures.few)) (omega (arith, part.ensures.few, room)) part.ensures.stands (omega (arith, c.from-else-word-eq0.ensures)) in
+    part.ensures.len part.ensures.kept part.ensures.blank part.ensures.unlocked part.ensures.more (omega (arith, part.ensures.few)) (omega (arith, part.ensures.few, room)) part.ensures.stands (omega (arith, c.from-else-word-eq0.ensures)) in
     done.stored
 
 pub returns-then-word-eq0-clause-canonical : goal.returns-then-word-eq0-clause-canonical
@@ -147,7 +147,7 @@ returns-else-word-eq0-clause-canonical c =
     let room : f.used + 21 ≤ f.held = subst (λ (y : Stored). y.used + 21 ≤ y.held) (sym c.self.view_is) (omega (arith, c.requires.room)) in
     let done : IsDone sites c.args.n c.args.self.now (stored (slice_set part.new.words.items spot.result.place v) f.base f.level part.result f.held) =
     parted_case sites c.args.self.now o part.new.words.items c.args.n spot.result.place spot.result.level c.index-word.result.now part.result v can found c.if-word-eq0.false
-    part.ensures.len part.ensures.kept part.ensures.blank part.ensures.more (omega (arith, part.ensures.few)) (omega (arith, part.ensures.few, room)) part.ensures.stands (omega (arith, c.from-else-word-eq0.ensures)) in
+    part.ensures.len part.ensures.kept part.ensures.blank part.ensures.unlocked part.ensures.more (omega (arith, part.ensures.few)) (omega (arith, part.ensures.few, room)) part.ensures.stands (omega (arith, c.from-else-word-eq0.ensures)) in
     done.canonical
 
 pub returns-else-word-eq0-clause-inserted : goal.returns-else-word-eq0-clause-inserted
@@ -163,5 +163,5 @@ returns-else-word-eq0-clause-inserted c =
     let room : f.used + 21 ≤ f.held = subst (λ (y : Stored). y.used + 21 ≤ y.held) (sym c.self.view_is) (omega (arith, c.requires.room)) in
     let done : IsDone sites c.args.n c.args.self.now (stored (slice_set part.new.words.items spot.result.place v) f.base f.level part.result f.held) =
     parted_case sites c.args.self.now o part.new.words.items c.args.n spot.result.place spot.result.level c.index-word.result.now part.result v can found c.if-word-eq0.false
-    part.ensures.len part.ensures.kept part.ensures.blank part.ensures.more (omega (arith, part.ensures.few)) (omega (arith, part.ensures.few, room)) part.ensures.stands (omega (arith, c.from-else-word-eq0.ensures)) in
+    part.ensures.len part.ensures.kept part.ensures.blank part.ensures.unlocked part.ensures.more (omega (arith, part.ensures.few)) (omega (arith, part.ensures.few, room)) part.ensures.stands (omega (arith, c.from-else-word-eq0.ensures)) in
     done.inserted

@@ -24,8 +24,12 @@ loop-n-preserved c =
     let more = built_roomier sites c.loop-n.tree c.reserve.new.self c.loop-n.n c.loop-n.invariant c.reserve.ensures.stays in
     built_more sites c.reserve.new.self c.insert.new.self c.loop-n.n more c.insert.ensures.canonical c.insert.ensures.inserted
 
-pub returns-clause-tree : goal.returns-clause-tree
-returns-clause-tree c =
+pub returns : goal.returns
+returns c =
     let sites = c.args.points.now in
     let all : c.loop-n.n ≡ length sites = omega arith in
-    c.canonical_tree.ensures (numbers (length sites)) (numbers_once (length sites)) (built_all sites c.loop-n.tree c.loop-n.n c.loop-n.invariant all)
+    record {
+      base = c.loop-n.invariant.base;
+      canonical = c.loop-n.invariant.canonical;
+      tree = c.canonical_tree.ensures (numbers (length sites)) (numbers_once (length sites)) (built_all sites c.loop-n.tree c.loop-n.n c.loop-n.invariant all);
+    }
