@@ -1,0 +1,4 @@
+pub mod Parts
+pub mod Under
+pub mod Fills
+pub mod Bounds

@@ -1,0 +1,40 @@
+//! The moments of all cells of an octree in one pass.
+
+ghost use Rattle.std.specs.Prelude.{◌≡◌, All, IfOk, length};
+ghost use Rattle.mass_moments.specs.Kept.{AreMoments, IsCost, cost_at, matter_of};
+ghost use Rattle.octree.specs.Reading.{IsOctreeOf};
+ghost use Rattle.scene_file.specs.Bodies.{sites_of};
+
+use crate::fill::{NO_MOMENT, ORIGIN, fill};
+use crate::table::Moments;
+use octant_code::OutOfMemory;
+use octree::Octree;
+use scene_file::Bodies;
+use std::alloc::Global;
+
+/// The moment of each cell of the canonical octree of all bodies that can be reached, with a cost from
+/// 1 to 65,536 for each body (Barnes and Hut, Nature 324, 1986).
+pub fn moments<R>(
+    _rt: &R,
+    alloc: Global,
+    tree: &Octree,
+    bodies: &Bodies,
+    costs: &[u32],
+) -> Result<Moments, OutOfMemory>
+    requires octree { IsOctreeOf (sites_of bodies.now) tree.now }
+    requires one_cost_each { length costs.now ≡ length bodies.now }
+    requires costs { All IsCost costs.now }
+    ensures { IfOk result (λ list. AreMoments tree.now (matter_of bodies.now) (cost_at costs.now) list) }
+{
+    let _rule = bodies.len();
+    let used = (tree.held() - tree.spare()) as usize;
+    let Ok(mut list) = vec![in alloc; NO_MOMENT; used] else {
+        return Err(OutOfMemory);
+    };
+    let Ok(mut centres) = vec![in alloc; ORIGIN; used] else {
+        return Err(OutOfMemory);
+    };
+    let root = tree.root();
+    let _whole = fill(tree, bodies, costs, &mut list, &mut centres, root, 22);
+    Ok(Moments::with_centres(list, centres))
+}
