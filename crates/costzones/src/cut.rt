@@ -1,0 +1,105 @@
+//! The zones of the workers.
+
+ghost use Rattle.std.specs.Prelude.{◌≡◌, ◌<◌, ◌≤◌, ◌+◌, ◌*◌, ℕ, All, IfOk, length, map};
+ghost use Rattle.bh_model.specs.Plans.{HasWorkers};
+ghost use Rattle.bh_model.specs.Zones.{zone, zones};
+ghost use Rattle.mass_moments.specs.Kept.{HaveCosts, IsCost, cost_at};
+ghost use Rattle.octree.specs.Stored.{tree_of};
+ghost use Rattle.tree_rule.specs.Words.{HasBody};
+
+use crate::descend::{Cut, cost_of, descend};
+use mass_moments::Moments;
+use octant_code::{OutOfMemory, Steps};
+use octree::Octree;
+use std::alloc::Global;
+use std::marker::Brand;
+use std::sync::ledger::{Blank, Ledger};
+
+/// How many words lie on a way down from the root, its own and the last among them.
+const WORDS: u32 = 22;
+
+/// Zone `w` of 1 to 64 workers, with its bodies in tree order (costzones: Singh, Holt, Totsuka, Gupta
+/// and Hennessy, JPDC 1995). It is read off on the way down from the root. A step is a cell that is
+/// opened: at most 21 for each body of the zone, and 21 more.
+pub fn zone<L: Ledger>(
+    alloc: Global,
+    tree: &Octree,
+    moments: &Moments,
+    costs: &[u32],
+    workers: u32,
+    w: u32,
+    steps: &mut Steps<L>,
+) -> Result<Vec<u32>, OutOfMemory>
+    requires costs_of_bodies { (n : ℕ) → HasBody tree.now.words n → n < length costs.now }
+    requires costs { All IsCost costs.now }
+    requires moments { HaveCosts tree.now (cost_at costs.now) moments.now }
+    requires workers { HasWorkers workers }
+    requires worker { w < workers }
+    ensures items { IfOk result (λ z. z.items ≡ zone (cost_at costs.now) workers w (tree_of tree.now)) }
+    ensures steps { steps.new ≤ steps.old + 21 * (length (zone (cost_at costs.now) workers w (tree_of tree.now)) + 1) }
+{
+    let _rule = tree.held();
+    let mut bodies = Vec::new(alloc);
+    let root = tree.root();
+    let whole = cost_of(tree, moments, costs, root);
+    if whole == 0 {
+        return Ok(bodies);
+    }
+    let cut = Cut {
+        tree,
+        moments,
+        costs,
+        whole,
+        workers,
+        w,
+    };
+    descend(&cut, &mut bodies, root, WORDS, 0, steps)?;
+    Ok(bodies)
+}
+
+// The zones, with a ledger for their steps.
+fn zones_from<L: Ledger>(
+    alloc: Global,
+    tree: &Octree,
+    moments: &Moments,
+    costs: &[u32],
+    workers: u32,
+    blank: Blank,
+) -> Result<Vec<Vec<u32>>, OutOfMemory>
+    requires name { blank.name ≡ L.name }
+    requires parts { (blank.parts ≡ L.parts) × (0 < blank.parts) }
+    requires costs_of_bodies { (n : ℕ) → HasBody tree.now.words n → n < length costs.now }
+    requires costs { All IsCost costs.now }
+    requires moments { HaveCosts tree.now (cost_at costs.now) moments.now }
+    requires workers { HasWorkers workers }
+    ensures { IfOk result (λ list. map (λ z. z.items) list.items ≡ zones (cost_at costs.now) workers (tree_of tree.now)) }
+{
+    let mut steps = Steps::<L>::new(blank);
+    let mut list = Vec::new(alloc);
+    for w in 0..workers {
+        let bodies = zone(alloc, tree, moments, costs, workers, w, &mut steps)?;
+        match list.push(bodies) {
+            Ok(()) => {}
+            Err(_) => return Err(OutOfMemory),
+        }
+    }
+    Ok(list)
+}
+
+/// The zones of 1 to 64 workers, one after another, each with its bodies in tree order (costzones:
+/// Singh, Holt, Totsuka, Gupta and Hennessy, JPDC 1995).
+pub fn zones(
+    alloc: Global,
+    tree: &Octree,
+    moments: &Moments,
+    costs: &[u32],
+    workers: u32,
+) -> Result<Vec<Vec<u32>>, OutOfMemory>
+    requires costs_of_bodies { (n : ℕ) → HasBody tree.now.words n → n < length costs.now }
+    requires costs { All IsCost costs.now }
+    requires moments { HaveCosts tree.now (cost_at costs.now) moments.now }
+    requires workers { HasWorkers workers }
+    ensures { IfOk result (λ list. map (λ z. z.items) list.items ≡ zones (cost_at costs.now) workers (tree_of tree.now)) }
+{
+    zones_from::<Brand>(alloc, tree, moments, costs, workers, Blank::new(1))
+}
