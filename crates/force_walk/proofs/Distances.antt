@@ -1,0 +1,95 @@
+-- From which squared distance on a cube is far.
+use Rattle.std.proofs.Common.{ℕ, ◌+◌, ◌*◌, ◌/◌, ◌%◌, ◌^◌, ◌<◌, ◌≤◌, ◌≡◌, ◌≢◌, true, false, not, ltb, refl, sym, ap, ◌∙◌, subst, arith, inl, inr}
+use Rattle.std.proofs.lemmas.Bool.{cases_lt, le-ltb, lt-ltb}
+use Rattle.std.proofs.Math.Nat.{div-add-mod, mul-le-mul_left}
+use Rattle.std.proofs.lemmas.Nat.{mul-le, one_shl, pow-add}
+use Rattle.bh_model.specs.Pulls.{PullLaw}
+use Rattle.force_walk.specs.Flat.{IsLeast}
+
+-- what is at most the quotient is not far
+near_test : (s y d : ℕ) → 0 < y → d ≤ s / y → ltb s (y * d) ≡ false
+near_test s y d positive h = le-ltb s (y * d) (omega (arith, div-add-mod s y, mul-le-mul_left y h))
+
+-- what is above it is far
+far_test : (s y d : ℕ) → 0 < y → s / y < d → ltb s (y * d) ≡ true
+far_test s y d positive h =
+    let more : s / y + 1 ≤ d = omega arith in
+    let next : y * (s / y + 1) ≤ y * d = mul-le-mul_left y more in
+    lt-ltb s (y * d) (omega (arith, div-add-mod s y, next))
+
+-- both tests of a distance say the same where the least is one more than the quotient
+quotient_tells : (s y d : ℕ) → 0 < y → ltb d (s / y + 1) ≡ not (ltb s (y * d))
+quotient_tells s y d positive =
+    elim (cases_lt (s / y) d) [
+      | inl far ↦ rw (far_test s y d positive far, le-ltb d (s / y + 1) (omega arith))
+      | inr near ↦ rw (near_test s y d positive near, lt-ltb d (s / y + 1) (omega arith))
+    ]
+
+-- a cube beyond all distances
+beyond_tells : (s y d most : ℕ) → 0 < y → most ≤ s / y → d < most → ltb d most ≡ not (ltb s (y * d))
+beyond_tells s y d most positive high near = rw (near_test s y d positive (omega arith), lt-ltb d most near)
+
+-- no cube is far where the opening angle is 0
+never_tells : (s d most : ℕ) → d < most → ltb d most ≡ not (ltb s (0 * 0 * d))
+never_tells s d most near = let none : 0 * 0 * d ≡ 0 = omega arith in rw (none, le-ltb s 0 (omega arith), lt-ltb d most near)
+
+-- four to a power is the square of two to it
+pub four_pow : (d : ℕ) → d ≤ 21 → (1 * 2 ^ (2 * d)) % 2 ^ 128 ≡ 2 ^ d * 2 ^ d
+four_pow d h =
+    let a : 2 * d ≡ d + d = omega arith in
+    one_shl (2 * d) 128 (omega arith) ∙ ap (λ k. 2 ^ k) a ∙ pow-add 2 d d
+
+square_positive : (t : ℕ) → t ≢ 0 → 0 < t * t
+square_positive t h = mul-le 1 1 t t (omega arith) (omega arith)
+
+pub least_of_body : (law : PullLaw) (down : ℕ) → down ≡ 0 → IsLeast law down 1
+least_of_body law down h = record { positive = omega arith; of_body = λ _. refl; of_cell = λ cell d near. absurd (cell h) }
+
+pub least_never : (law : PullLaw) (down : ℕ) → down ≢ 0 → law.theta_num ≡ 0 → IsLeast law down (2 ^ 44)
+least_never law down cell none = record {
+  positive = omega arith;
+  of_body = λ body. absurd (cell body);
+  of_cell = λ _ d near.
+      let P : ℕ → Type 0 = λ t. ltb d (2 ^ 44) ≡ not (ltb (2 ^ down * 2 ^ down * (law.theta_den * law.theta_den)) (t * t * d)) in
+      subst P (sym none) (never_tells (2 ^ down * 2 ^ down * (law.theta_den * law.theta_den)) d (2 ^ 44) near);
+}
+
+pub least_near : (law : PullLaw) (down s near : ℕ) → down ≢ 0 → law.theta_num ≢ 0 → s ≡ 2 ^ down * 2 ^ down * (law.theta_den * law.theta_den)
+    → near ≡ s / (law.theta_num * law.theta_num) → IsLeast law down (near + 1)
+least_near law down s near cell some e f = record {
+  positive = omega arith;
+  of_body = λ body. absurd (cell body);
+  of_cell = λ _ d small.
+      let P : ℕ → Type 0 = λ q. ltb d (q + 1) ≡ not (ltb (2 ^ down * 2 ^ down * (law.theta_den * law.theta_den)) (law.theta_num * law.theta_num * d)) in
+      let Q : ℕ → Type 0 = λ w. ltb d (s / (law.theta_num * law.theta_num) + 1) ≡ not (ltb w (law.theta_num * law.theta_num * d)) in
+      subst P (sym f) (subst Q e (quotient_tells s (law.theta_num * law.theta_num) d (square_positive law.theta_num some)));
+}
+
+pub least_beyond : (law : PullLaw) (down s near : ℕ) → down ≢ 0 → law.theta_num ≢ 0 → s ≡ 2 ^ down * 2 ^ down * (law.theta_den * law.theta_den)
+    → near ≡ s / (law.theta_num * law.theta_num) → 2 ^ 44 ≤ near → IsLeast law down (2 ^ 44)
+least_beyond law down s near cell some e f high = record {
+  positive = omega arith;
+  of_body = λ body. absurd (cell body);
+  of_cell = λ _ d small.
+      let Q : ℕ → Type 0 = λ w. ltb d (2 ^ 44) ≡ not (ltb w (law.theta_num * law.theta_num * d)) in
+      subst Q e (beyond_tells s (law.theta_num * law.theta_num) d (2 ^ 44) (square_positive law.theta_num some) (omega arith) small);
+}
+
+-- the same as the code has the numbers
+pub least_near_coded : (law inside : PullLaw) (down num den : ℕ) → down ≢ 0 → down ≤ 21 → num ≢ 0 → num ≡ inside.theta_num → den ≡ inside.theta_den → inside ≡ law
+    → IsLeast law down ((1 * 2 ^ (2 * down)) % 2 ^ 128 * (den * den) / (num * num) + 1)
+least_near_coded law inside down num den cell shallow some n d same =
+    let num_is : num ≡ law.theta_num = n ∙ ap (λ (l : PullLaw). l.theta_num) same in
+    let den_is : den ≡ law.theta_den = d ∙ ap (λ (l : PullLaw). l.theta_den) same in
+    least_near law down ((1 * 2 ^ (2 * down)) % 2 ^ 128 * (den * den)) _ cell (λ (z : law.theta_num ≡ 0). some (num_is ∙ z))
+    (ap (λ f. f * (den * den)) (four_pow down shallow) ∙ ap (λ q. 2 ^ down * 2 ^ down * (q * q)) den_is)
+    (ap (λ t. (1 * 2 ^ (2 * down)) % 2 ^ 128 * (den * den) / (t * t)) num_is)
+
+pub least_beyond_coded : (law inside : PullLaw) (down num den : ℕ) → down ≢ 0 → down ≤ 21 → num ≢ 0 → num ≡ inside.theta_num → den ≡ inside.theta_den → inside ≡ law
+    → 2 ^ 44 ≤ (1 * 2 ^ (2 * down)) % 2 ^ 128 * (den * den) / (num * num) → IsLeast law down (2 ^ 44)
+least_beyond_coded law inside down num den cell shallow some n d same high =
+    let num_is : num ≡ law.theta_num = n ∙ ap (λ (l : PullLaw). l.theta_num) same in
+    let den_is : den ≡ law.theta_den = d ∙ ap (λ (l : PullLaw). l.theta_den) same in
+    least_beyond law down ((1 * 2 ^ (2 * down)) % 2 ^ 128 * (den * den)) ((1 * 2 ^ (2 * down)) % 2 ^ 128 * (den * den) / (num * num)) cell (λ (z : law.theta_num ≡ 0). some (num_is ∙ z))
+    (ap (λ f. f * (den * den)) (four_pow down shallow) ∙ ap (λ q. 2 ^ down * 2 ^ down * (q * q)) den_is)
+    (ap (λ t. (1 * 2 ^ (2 * down)) % 2 ^ 128 * (den * den) / (t * t)) num_is) high

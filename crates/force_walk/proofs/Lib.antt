@@ -1,0 +1,9 @@
+pub mod Distances
+pub mod Opens
+pub mod Walked
+pub mod Flats
+pub mod Lays
+pub mod Scenes
+pub mod Placing
+pub mod Belows
+pub mod Quotients

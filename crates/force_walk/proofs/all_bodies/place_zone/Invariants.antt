@@ -1,0 +1,6 @@
+use Rattle.mass_moments.specs.Kept.{matter_of}
+use Rattle.force_walk.proofs.Placing.{ArePut}
+use Rattle.force_walk.proofs.all_bodies.place_zone.Given as goal
+
+abbrev pub invariant-loop-n : goal.invariant-loop-n
+invariant-loop-n l = ArePut l.law (matter_of l.bodies) l.nodes l.initial.list l.list l.zone l.n-index

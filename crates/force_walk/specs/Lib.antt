@@ -1,0 +1,4 @@
+pub mod Walks
+pub mod Flat
+pub mod Placed
+pub mod Views

@@ -1,0 +1,254 @@
+//! The exact term of one mass on one body, fast: floats guess, and whole numbers test the guesses.
+
+ghost use Rattle.std.specs.Prelude.{◌≡◌, ◌+◌, ◌-◌, ◌*◌, ◌/◌, ◌%◌, ◌^◌, ◌<◌, ◌≤◌, pos, neg_ℤ, IsTrue, if◌then◌else◌};
+ghost use Rattle.octant_code.specs.Space.{squared_distance};
+ghost use Rattle.octant_code.specs.Numbers.{root};
+ghost use Rattle.bh_model.specs.Pulls.{part, term};
+
+use bh_model::{Law, Pull, plain_part};
+use octant_code::{Point, short_isqrt};
+
+/// The term of a mass at a point on a body at another, whose squared distance is `d2`, exactly as
+/// `bh_model::plain_term` has it. The mass is below 2^40.
+///
+/// Floats guess the root and one rate for all three axes, whole numbers test both, and where a test
+/// fails slower ways stand in.
+#[inline]
+pub fn term_at(law: &Law, mass: u64, from: Point, to: Point, d2: u64) -> Pull
+    requires light { mass < 2 ^ 40 }
+    requires distance { d2 ≡ squared_distance from to }
+    requires apart { 0 < d2 + law.now.eps2 }
+    ensures { result ≡ term law.now mass from to }
+{
+    let x = from.x.abs_diff(to.x);
+    let y = from.y.abs_diff(to.y);
+    let z = from.z.abs_diff(to.z);
+    let r2 = d2 + law.eps2;
+    let guess = guess_of(law.g, mass, r2);
+    let root = root_of(r2, guess.root);
+    let divisor = divisor_of(r2, root);
+    let scale = u128::from(law.g) * u128::from(mass);
+    let met = 1;
+    let rate = guess.rate;
+    if is_rate(scale, divisor, rate) && is_sure(rate, x) && is_sure(rate, y) && is_sure(rate, z) {
+        return Pull {
+            ax: share(rate, x, from.x <= to.x),
+            ay: share(rate, y, from.y <= to.y),
+            az: share(rate, z, from.z <= to.z),
+            met,
+        };
+    }
+    let rate = wide_rate(guess.parts);
+    if is_wide_rate(scale, divisor, rate)
+        && is_wide_sure(rate, x)
+        && is_wide_sure(rate, y)
+        && is_wide_sure(rate, z)
+    {
+        return Pull {
+            ax: wide_share(rate, x, from.x <= to.x),
+            ay: wide_share(rate, y, from.y <= to.y),
+            az: wide_share(rate, z, from.z <= to.z),
+            met,
+        };
+    }
+    Pull {
+        ax: slow_part(scale, from.x, to.x, divisor),
+        ay: slow_part(scale, from.y, to.y, divisor),
+        az: slow_part(scale, from.z, to.z, divisor),
+        met,
+    }
+}
+
+// ---- guesses, of which nothing but their size has to be known
+
+/// What is likely to be the root of `r2` and the rate of a term, and the rate's float.
+#[derive(Clone, Copy)]
+struct Guess {
+    root: u64,
+    rate: u64,
+    parts: f64,
+}
+
+/// Guesses by floats of the root of `r2`, and of the rate: `g * mass / (r2 * root)` in parts of 2^-32.
+/// Both are rounded down: half of one is taken from the root of `r2 + 1/2`, and the float that holds
+/// the rate has nine more bits. A rate of 2^43 or more is guessed as 0.
+#[inline]
+fn guess_of(g: u64, mass: u64, r2: u64) -> Guess
+    requires g_fits { g ≤ 2 ^ 40 }
+    requires mass_fits { mass < 2 ^ 40 }
+    requires r2_fits { r2 < 2 ^ 45 }
+    ensures root_fits { result.root < 2 ^ 23 }
+    ensures rate_fits { result.rate < 2 ^ 43 }
+{
+    let bits = f64::from_bits(r2 + ONES);
+    let near = (bits - HALF_BELOW).sqrt() + HALF_BELOW;
+    let scale = float(mass) * (float(g) * 4294967296.0);
+    let parts = scale / (bits - ONES_FLOAT) / (near - ONES_FLOAT);
+    let held = parts + 8796093022208.0;
+    Guess {
+        root: bits_below(near, 9007199254740992.0) % 0x80_0000,
+        rate: (bits_below(held, 17592186044416.0) >> 9) % 0x800_0000_0000,
+        parts,
+    }
+}
+
+/// A guess of the rate in parts of 2^-26, less two parts for what the floats lose.
+#[inline]
+fn wide_rate(parts: f64) -> u64
+    ensures { result < 2 ^ 52 }
+{
+    bits_below(parts * 0.015625 + (ONES_FLOAT - 2.0), 9007199254740992.0) % 0x10_0000_0000_0000
+}
+
+/// The bits of a float that is below a limit, and else 0.
+#[inline]
+fn bits_below(x: f64, limit: f64) -> u64 {
+    if x < limit { x.to_bits() } else { 0 }
+}
+
+/// The bits of the float 2^52. The lowest bits of a float from there to 2^53 count ones.
+const ONES: u64 = 0x4330_0000_0000_0000;
+
+/// The float 2^52.
+const ONES_FLOAT: f64 = 4503599627370496.0;
+
+/// The float 2^52 - 1/2.
+const HALF_BELOW: f64 = 4503599627370495.5;
+
+/// The float that is a number below 2^52.
+#[inline]
+fn float(n: u64) -> f64
+    requires { n < 2 ^ 52 }
+{
+    f64::from_bits(n + ONES) - ONES_FLOAT
+}
+
+// ---- the root
+
+/// The root of a number, where a guess of it is at hand.
+#[inline]
+fn root_of(n: u64, guess: u64) -> u64
+    requires number_fits { n < 2 ^ 45 }
+    requires guess_fits { guess < 2 ^ 23 }
+    ensures value { result ≡ root n }
+    ensures fits { result < 2 ^ 23 }
+{
+    if guess * guess <= n && n - guess * guess <= 2 * guess {
+        guess
+    } else {
+        slow_root(n)
+    }
+}
+
+#[cold]
+#[inline(never)]
+fn slow_root(n: u64) -> u64
+    requires { n < 2 ^ 45 }
+    ensures value { result ≡ root n }
+    ensures fits { result < 2 ^ 23 }
+{
+    short_isqrt(n)
+}
+
+/// What a term is divided by.
+#[inline]
+fn divisor_of(r2: u64, r: u64) -> u128
+    requires positive { 0 < r2 }
+    requires fits { r2 < 2 ^ 45 }
+    requires root_value { r ≡ root r2 }
+    requires root_fits { r < 2 ^ 23 }
+    ensures value { result ≡ r2 * r }
+    ensures positive { 0 < result }
+    ensures fits { result < 2 ^ 68 }
+{
+    u128::from(r2) * u128::from(r)
+}
+
+// ---- shares of a rate in parts of 2^-32, in words of 64 bits
+
+/// Whether the rate of a scale and a divisor, in parts of 2^-32, is so much or less than one part more.
+#[inline]
+fn is_rate(scale: u128, divisor: u128, rate: u64) -> bool
+    requires scale_fits { scale < 2 ^ 80 }
+    requires divisor_fits { divisor < 2 ^ 68 }
+    requires rate_fits { rate < 2 ^ 43 }
+    ensures { IsTrue result → (rate * divisor ≤ scale * 2 ^ 32) × (scale * 2 ^ 32 < rate * divisor + 1 * divisor) }
+{
+    let whole = scale * 0x1_0000_0000;
+    let part = u128::from(rate) * divisor;
+    part <= whole && whole - part < divisor
+}
+
+/// Whether up to one part more of a rate leads to no other share of it.
+#[inline]
+fn is_sure(rate: u64, gap: u32) -> bool
+    requires rate_fits { rate < 2 ^ 43 }
+    requires gap_fits { gap < 2 ^ 21 }
+    ensures { IsTrue result → rate * gap % 2 ^ 32 + 1 * gap ≤ 2 ^ 32 }
+{
+    let gap = u64::from(gap);
+    rate * gap % 0x1_0000_0000 + gap <= 0x1_0000_0000
+}
+
+/// The share of a rate along one axis, up or down.
+#[inline]
+fn share(rate: u64, gap: u32, up: bool) -> i128
+    requires rate_fits { rate < 2 ^ 43 }
+    requires gap_fits { gap < 2 ^ 21 }
+    ensures { result ≡ (if up then pos (rate * gap / 2 ^ 32) else neg_ℤ (pos (rate * gap / 2 ^ 32))) }
+{
+    let size = (rate * u64::from(gap) / 0x1_0000_0000) as i64;
+    i128::from(if up { size } else { -size })
+}
+
+// ---- shares of a rate in parts of 2^-26, in words of 128 bits
+
+/// Whether the rate of a scale and a divisor, in parts of 2^-26, is so much or less than four parts
+/// more.
+#[inline]
+fn is_wide_rate(scale: u128, divisor: u128, rate: u64) -> bool
+    requires scale_fits { scale < 2 ^ 80 }
+    requires divisor_fits { divisor < 2 ^ 68 }
+    requires rate_fits { rate < 2 ^ 52 }
+    ensures { IsTrue result → (rate * divisor ≤ scale * 2 ^ 26) × (scale * 2 ^ 26 < rate * divisor + 4 * divisor) }
+{
+    let whole = scale * 0x400_0000;
+    let part = u128::from(rate) * divisor;
+    part <= whole && whole - part < 4 * divisor
+}
+
+/// Whether up to four parts more of a rate lead to no other share of it.
+#[inline]
+fn is_wide_sure(rate: u64, gap: u32) -> bool
+    requires rate_fits { rate < 2 ^ 52 }
+    requires gap_fits { gap < 2 ^ 21 }
+    ensures { IsTrue result → rate * gap % 2 ^ 26 + 4 * gap ≤ 2 ^ 26 }
+{
+    let gap = u64::from(gap);
+    (u128::from(rate) * u128::from(gap) % 0x400_0000) as u64 + 4 * gap <= 0x400_0000
+}
+
+/// The share of a rate along one axis, up or down.
+#[inline]
+fn wide_share(rate: u64, gap: u32, up: bool) -> i128
+    requires rate_fits { rate < 2 ^ 52 }
+    requires gap_fits { gap < 2 ^ 21 }
+    ensures { result ≡ (if up then pos (rate * gap / 2 ^ 26) else neg_ℤ (pos (rate * gap / 2 ^ 26))) }
+{
+    let size = (u128::from(rate) * u128::from(gap) / 0x400_0000) as i64;
+    i128::from(if up { size } else { -size })
+}
+
+// ---- the last way
+
+/// One coordinate of a term, divided. It stands apart, so that the ways above stay short.
+#[cold]
+#[inline(never)]
+fn slow_part(scale: u128, from: u32, to: u32, divisor: u128) -> i128
+    requires scale_fits { scale < 2 ^ 80 }
+    requires positive { 0 < divisor }
+    requires divisor_fits { divisor < 2 ^ 68 }
+    ensures { result ≡ part scale from to divisor }
+{
+    plain_part(scale, from, to, divisor)
+}
