@@ -1,0 +1,5 @@
+pub mod RowFacts
+pub mod PushFacts
+pub mod CostFacts
+pub mod ZoneFacts
+pub mod FrameFacts
