@@ -1,3 +1,3 @@
-mod LineFacts
 mod NumberFacts
+mod FrameFacts
 mod ServeFacts

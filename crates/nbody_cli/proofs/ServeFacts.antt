@@ -24,10 +24,10 @@ are_left : (left : Option (List ℕ)) (other : List ℕ) → AreLeft left (left_
 are_left None other = tt
 are_left (Some xs) other = refl
 
--- where there are options, the text is the scene's
-asked_some : (options : Option Choices) (scene : Result (List Body) SceneFault) → IsSome options → asked_text options scene ≡ answer_text scene
-asked_some (Some o) scene some = refl
-asked_some None scene some = cc
+-- where a scene is too long, the text of options is its line
+asked_long : (options : Option Choices) (scene : Result (List Body) SceneFault) → IsSome options → scene ≡ Err fault.TooLong → asked_text options scene ≡ refused_line fault.TooLong
+asked_long (Some o) scene some long = ap (answer_text o) long
+asked_long None scene some long = cc
 
 -- a scene of too many bytes
 long_scene : (bytes : List ℕ) → 16777216 < length bytes → scene_of bytes ≡ Err fault.TooLong
@@ -70,7 +70,7 @@ serves_long options l0 l1 given rb rn wb w kb kn some gave long took =
     record {
       bytes = left_or l0 given;
       told = are_left l0 given;
-      answers = rw (asked_some options (scene_of (left_or l0 given)) some, scene) (some, tt, took);
+      answers = rw (asked_long options (scene_of (left_or l0 given)) some scene, scene) (some, tt, took);
       complete = λ some ok quiet still. (let bad = rw scene at ok in cc);
     }
 
@@ -82,6 +82,6 @@ serves_long_write options l0 l1 given rb rn wb w kb kn some gave long rise took 
     record {
       bytes = left_or l0 given;
       told = are_left l0 given;
-      answers = rw (asked_some options (scene_of (left_or l0 given)) some, scene) (rise, took);
+      answers = rw (asked_long options (scene_of (left_or l0 given)) some scene) (rise, took);
       complete = λ some ok quiet still. absurd (still rise);
     }

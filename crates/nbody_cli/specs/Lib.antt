@@ -1,3 +1,5 @@
 pub mod Status
+pub mod Lines
+pub mod Frames
 pub mod Text
 pub mod Serving

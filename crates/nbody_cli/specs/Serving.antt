@@ -13,7 +13,7 @@ use Rattle.nbody_cli.specs.declared.status.Status.TheVariants as status
 
 -- the text that the options of the words and the scene ask for
 abbrev pub asked_text : Option Choices → Result (List Body) SceneFault → List ℕ
-asked_text (Some options) scene = answer_text scene
+asked_text (Some options) scene = answer_text options scene
 asked_text None scene = usage_line
 
 -- the bytes are those that the source told, where it tells any
@@ -27,14 +27,23 @@ IsRefused (Ok bodies) = ⊥
 IsRefused (Err fault.OutOfMemory) = ⊥
 IsRefused (Err told) = ⊤
 
--- what each status says of the writing of a scene's text
-abbrev pub AnswersScene : (scene : Result (List Body) SceneFault) (wrote_before wrote : Option (List ℕ)) (faults_before faults : ℕ) → Status → Type 0
-AnswersScene scene wb w fb f status.Done = IsOk scene × Took wb w (answer_text scene)
-AnswersScene scene wb w fb f status.Usage = ⊥
-AnswersScene scene wb w fb f status.Read = ⊥
-AnswersScene scene wb w fb f status.Write = Rose fb f × TookPrefix wb w (answer_text scene)
-AnswersScene scene wb w fb f status.Scene = IsRefused scene × Took wb w (answer_text scene)
-AnswersScene scene wb w fb f status.Memory = Took wb w []
+-- what each status says of the writing of the text of an accepted scene
+abbrev pub AnswersText : (text : List ℕ) (wrote_before wrote : Option (List ℕ)) (faults_before faults : ℕ) → Status → Type 0
+AnswersText text wb w fb f status.Done = Took wb w text
+AnswersText text wb w fb f status.Usage = ⊥
+AnswersText text wb w fb f status.Read = ⊥
+AnswersText text wb w fb f status.Write = Rose fb f × TookPrefix wb w text
+AnswersText text wb w fb f status.Scene = ⊥
+AnswersText text wb w fb f status.Memory = Took wb w []
+
+-- what each status says of the writing of the text of the options over a scene
+abbrev pub AnswersScene : (options : Choices) (scene : Result (List Body) SceneFault) (wrote_before wrote : Option (List ℕ)) (faults_before faults : ℕ) → Status → Type 0
+AnswersScene options scene wb w fb f status.Done = IsOk scene × Took wb w (answer_text options scene)
+AnswersScene options scene wb w fb f status.Usage = ⊥
+AnswersScene options scene wb w fb f status.Read = ⊥
+AnswersScene options scene wb w fb f status.Write = Rose fb f × TookPrefix wb w (answer_text options scene)
+AnswersScene options scene wb w fb f status.Scene = IsRefused scene × Took wb w (answer_text options scene)
+AnswersScene options scene wb w fb f status.Memory = Took wb w []
 
 -- what each status says of a run
 abbrev pub Answers : (options : Option Choices) (scene : Result (List Body) SceneFault) (read_faults_before read_faults : ℕ) (left : Option (List ℕ)) (wrote_before wrote : Option (List ℕ)) (write_faults_before write_faults : ℕ)
@@ -50,7 +59,7 @@ Answers options scene rb r left wb w fb f status.Memory = TookPrefix wb w (asked
 abbrev pub Completes : (options : Option Choices) (scene : Result (List Body) SceneFault) (read_faults_before read_faults write_faults_before write_faults : ℕ) → Status → Type 0
 Completes options scene rb r fb f answer = IsSome options → IsOk scene → (Rose rb r → ⊥) → (Rose fb f → ⊥) → (answer ≡ status.Done) ⊎ (answer ≡ status.Memory)
 
--- a run, for some list of bytes that is what the source told: at Done the text of the scene's canonical octree is what was written
+-- a run, for some list of bytes that is what the source told: at Done the text of the options over the scene is what was written
 pub record Serves (options : Option Choices) (left_before left : Option (List ℕ)) (read_faults_before read_faults : ℕ) (wrote_before wrote : Option (List ℕ)) (write_faults_before write_faults : ℕ) (answer : Status) : Type 0 where
   pub bytes : List ℕ
   pub told : AreLeft left_before bytes

@@ -1,6 +1,8 @@
 //! The texts and the top call of the program `nbody`.
 #![tactic(auto)]
 
+mod frame_text;
+mod lines;
 mod service;
 mod status;
 mod text;

@@ -1,45 +1,93 @@
 //! The top call.
 
-ghost use Rattle.std.specs.Prelude.{◌≡◌, ◌≤◌, IfOk, None, map, string_bytes};
+ghost use Rattle.std.specs.Prelude.{◌≡◌, ◌≤◌, IsFalse, IsTrue, None, map, string_bytes, true};
 ghost use Rattle.bh_outside.specs.Outside.{KeepsSure};
-ghost use Rattle.octree.specs.Stored.{tree_of};
 ghost use Rattle.scene_file.specs.Scene.{scene_of};
-ghost use Rattle.nbody_cli.specs.Serving.{AnswersScene, Serves};
-ghost use Rattle.nbody_cli.specs.Text.{tree_of_bodies};
-ghost use Rattle.nbody_words.specs.Options.{options_of};
+ghost use Rattle.nbody_cli.specs.Serving.{AnswersScene, AnswersText, Serves};
+ghost use Rattle.nbody_cli.specs.Frames.{text_of_frame};
+ghost use Rattle.nbody_cli.specs.Lines.{tree_line};
+ghost use Rattle.nbody_cli.specs.Text.{command_text};
+ghost use Rattle.frame_core.specs.Frames.{tree_of_bodies};
+ghost use Rattle.nbody_words.specs.Options.{is_served, options_of};
 
+use crate::frame_text::write_frame;
 use crate::status::Status;
 use crate::text::{write_refused, write_tree_line, write_usage};
 use bh_outside::{Input, ReadAllFault, Sink, Source, read_all};
-use nbody_words::{OptionsFault, read_options};
-use octant_code::OutOfMemory;
-use octree::Octree;
+use frame_core::Engine;
+use nbody_words::{Command, Options, OptionsFault, read_options};
 use scene_file::{Bodies, MOST_BYTES, SceneFault, read_scene};
-use std::alloc::Global;
 
-/// The canonical octree of bodies.
-fn tree_of_bodies(alloc: Global, bodies: &Bodies) -> Result<Octree, OutOfMemory>
-    ensures { IfOk result (λ tree. tree_of tree ≡ tree_of_bodies bodies.now) }
+/// Writes the frame of an engine whose bodies have their tree.
+fn answer_run<R, K: Sink>(rt: &R, engine: &mut Engine, sink: &mut K) -> Status
+    requires not_spent { IsFalse engine.old.spent }
+    requires tree { IsTrue engine.old.has_tree }
+    requires no_frame { IsFalse engine.old.has_frame }
+    ensures answers { AnswersText (text_of_frame engine.old) (K.written sink.old) (K.written sink.new) (K.faults sink.old) (K.faults sink.new) result }
+    ensures later { K.faults sink.old ≤ K.faults sink.new }
 {
-    match bodies.points(alloc) {
-        Ok(points) => Octree::of_points(alloc, &points),
-        Err(fault) => Err(fault),
+    match engine.frame(rt) {
+        Ok(frame) => match write_frame(sink, engine, &frame) {
+            Ok(()) => Status::Done,
+            Err(_) => Status::Write,
+        },
+        Err(_) => Status::Memory,
     }
 }
 
-/// Reads the scene of the bytes, and writes the line of its tree or of its fault.
-fn answer_scene<K: Sink>(alloc: Global, bytes: &[u8], sink: &mut K) -> Status
-    ensures answers { AnswersScene (scene_of bytes.now) (K.written sink.old) (K.written sink.new) (K.faults sink.old) (K.faults sink.new) result }
+/// Writes the line of the tree of an engine.
+fn answer_tree<K: Sink>(engine: &Engine, sink: &mut K) -> Status
+    requires not_spent { IsFalse engine.now.spent }
+    requires tree { IsTrue engine.now.has_tree }
+    ensures answers { AnswersText (tree_line (tree_of_bodies engine.now.bodies)) (K.written sink.old) (K.written sink.new) (K.faults sink.old) (K.faults sink.new) result }
     ensures later { K.faults sink.old ≤ K.faults sink.new }
 {
-    match read_scene(alloc, bytes) {
-        Ok(scene) => match tree_of_bodies(alloc, &scene.bodies) {
-            Ok(tree) => match write_tree_line(sink, &tree) {
-                Ok(()) => Status::Done,
-                Err(_) => Status::Write,
-            },
-            Err(_) => Status::Memory,
-        },
+    match write_tree_line(sink, engine.octree()) {
+        Ok(()) => Status::Done,
+        Err(_) => Status::Write,
+    }
+}
+
+/// Does a command over a scene's bodies: makes the tree, and what else the command asks for, and
+/// writes the text.
+fn answer_bodies<R: AllocGlobal, K: Sink>(
+    rt: &R,
+    options: &Options,
+    bodies: Bodies,
+    sink: &mut K,
+) -> Status
+    requires { is_served options.now ≡ true }
+    ensures answers { AnswersText (command_text options.now bodies) (K.written sink.old) (K.written sink.new) (K.faults sink.old) (K.faults sink.new) result }
+    ensures later { K.faults sink.old ≤ K.faults sink.new }
+{
+    let mut engine = match Engine::open(rt.alloc(), options.plan, bodies) {
+        Ok(engine) => engine,
+        Err(_) => return Status::Memory,
+    };
+    match engine.tree() {
+        Ok(()) => {}
+        Err(_) => return Status::Memory,
+    }
+    match options.command {
+        Command::Tree => answer_tree(&engine, sink),
+        Command::Run => answer_run(rt, &mut engine, sink),
+        Command::Passes | Command::Trial => unreachable!(),
+    }
+}
+
+/// Reads the scene of the bytes, and writes the text of the options or the line of its fault.
+fn answer_scene<R: AllocGlobal, K: Sink>(
+    rt: &R,
+    options: &Options,
+    bytes: &[u8],
+    sink: &mut K,
+) -> Status
+    requires { is_served options.now ≡ true }
+    ensures answers { AnswersScene options.now (scene_of bytes.now) (K.written sink.old) (K.written sink.new) (K.faults sink.old) (K.faults sink.new) result }
+    ensures later { K.faults sink.old ≤ K.faults sink.new }
+{
+    match read_scene(rt.alloc(), bytes) {
+        Ok(scene) => answer_bodies(rt, options, scene.bodies, sink),
         Err(SceneFault::OutOfMemory) => Status::Memory,
         Err(fault) => match write_refused(sink, fault) {
             Ok(()) => Status::Scene,
@@ -62,9 +110,8 @@ pub fn serve<R: AllocGlobal, S: Source, K: Sink>(
     ensures untouched { options_of (map string_bytes words.now) ≡ None → source.new ≡ source.old }
 {
     let alloc = rt.alloc();
-    match read_options(alloc, words) {
-        // The one command that is served is `tree`, and no option changes its text.
-        Ok(_) => {}
+    let options = match read_options(alloc, words) {
+        Ok(options) => options,
         Err(OptionsFault::OutOfMemory) => return Status::Memory,
         Err(OptionsFault::Usage) => {
             return match write_usage(sink) {
@@ -72,9 +119,9 @@ pub fn serve<R: AllocGlobal, S: Source, K: Sink>(
                 Err(_) => Status::Write,
             };
         }
-    }
+    };
     match read_all(alloc, source, MOST_BYTES) {
-        Ok(Input::Whole(bytes)) => answer_scene(alloc, &bytes, sink),
+        Ok(Input::Whole(bytes)) => answer_scene(rt, &options, &bytes, sink),
         Ok(Input::TooLong) => match write_refused(sink, SceneFault::TooLong) {
             Ok(()) => Status::Scene,
             Err(_) => Status::Write,

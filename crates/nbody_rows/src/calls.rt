@@ -1,6 +1,8 @@
 //! The calls that may want memory, with memory at hand, and numbers of single calls.
 
-use octant_code::{Distinct, NumberFault, Point, Points, isqrt, key_at, read_decimal, trunc_div};
+use octant_code::{
+    Distinct, NumberFault, Point, Points, isqrt, key_at, key_has, read_decimal, trunc_div,
+};
 use octree::{Node, Octree};
 use scene_file::{read_scene, scene_text};
 use std::alloc::Global;
@@ -73,6 +75,27 @@ fn bodies_one_step_apart_in_z_are_21_deep(rt: HostRuntime) -> Result<(), Fail> {
 #[test]
 fn the_key_of_a_point_at_the_last_level(rt: HostRuntime) -> Result<(), Fail> {
     assert_eq!(rt; key_at(point(0, 0, 1)?, 21), 9_223_372_036_854_775_809);
+    Ok(())
+}
+
+#[test]
+fn the_key_of_a_cube_has_the_points_in_it(rt: HostRuntime) -> Result<(), Fail> {
+    assert!(rt; key_has(8, point(0, 0, 0)?));
+    assert!(rt; !key_has(8, point(1_048_576, 0, 0)?));
+    assert!(rt; key_has(1, point(1_048_576, 0, 0)?));
+    Ok(())
+}
+
+#[test]
+fn an_octree_is_made_again_of_its_words(rt: HostRuntime) -> Result<(), Fail> {
+    let alloc = rt.alloc();
+    let scene = b"body,1,1048576,0,0\nbody,1,0,0,0\nbody,1,0,1048576,0\nbody,1,0,0,7\n";
+    let points = read_scene(alloc, scene)?.bodies.points(alloc)?;
+    let words = Octree::of_points(alloc, &points)?.into_words();
+    let again = Octree::of_words(words);
+    assert_eq!(rt; again.spare(), 0);
+    assert_eq!(rt; again.cells(), 19);
+    assert_eq!(rt; again.order(alloc)?.as_slice(), [1, 3, 2, 0].as_slice());
     Ok(())
 }
 

@@ -5,10 +5,18 @@
 #[cfg(test)]
 mod calls;
 #[cfg(test)]
+mod frames;
+#[cfg(test)]
 mod made;
+#[cfg(test)]
+mod plain;
 #[cfg(test)]
 mod regions;
 #[cfg(test)]
 mod runs;
 #[cfg(test)]
+mod tables;
+#[cfg(test)]
 mod words;
+#[cfg(test)]
+mod zones;

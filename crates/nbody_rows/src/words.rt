@@ -1,6 +1,7 @@
 //! The options of a few lines of words.
 
-use nbody_words::{Builder, Command, Options, OptionsFault, ProbeChoice, Shape, read_options};
+use bh_model::Builder;
+use nbody_words::{Command, Options, OptionsFault, ProbeChoice, Shape, read_options};
 use std::test::Fail;
 
 /// What the words have.
@@ -67,7 +68,9 @@ fn words_out_of_the_plain_form_are_refused(rt: HostRuntime) -> Result<(), Fail> 
 
 #[test]
 fn what_is_not_served_is_refused(rt: HostRuntime) -> Result<(), Fail> {
-    assert!(rt; is_usage(&rt, &["run"])?);
+    assert!(rt; is_usage(&rt, &["trial"])?);
+    assert!(rt; is_usage(&rt, &["run", "--steps", "2"])?);
+    assert!(rt; !is_usage(&rt, &["run", "--workers", "3"])?);
     assert!(rt; is_usage(&rt, &["tree", "--builder", "local"])?);
     assert!(rt; is_usage(&rt, &["tree", "--steps", "2"])?);
     assert!(rt; is_usage(&rt, &["tree", "--probe", "all"])?);

@@ -1,3 +1,4 @@
 pub mod ClapLine
 pub mod PlainFacts
 pub mod ReadFacts
+pub mod Served

@@ -4,9 +4,11 @@ use Rattle.std.specs.Result.{result_ok}
 use Rattle.std.specs.Str.{bytes_eq}
 use Rattle.octant_code.specs.Decimal.{decimal_read}
 use Rattle.nbody_words.specs.Plain.{Given, Text, given_by, value_of}
-use Rattle.nbody_words.specs.Choices.{Choices, PullLaw, TreePlan}
-use Rattle.nbody_words.specs.declared.options.Builder.{Builder}
-use Rattle.nbody_words.specs.declared.options.Builder.TheVariants as builder
+use Rattle.bh_model.specs.Plans.{TreePlan}
+use Rattle.bh_model.specs.Pulls.{PullLaw}
+use Rattle.nbody_words.specs.Choices.{Choices}
+use Rattle.bh_model.specs.declared.plan.Builder.{Builder}
+use Rattle.bh_model.specs.declared.plan.Builder.TheVariants as builder
 use Rattle.nbody_words.specs.declared.options.Command.{Command}
 use Rattle.nbody_words.specs.declared.options.Command.TheVariants as command
 use Rattle.nbody_words.specs.declared.options.Kind.TheVariants as kind
@@ -124,6 +126,7 @@ choices_of value =
 -- the commands that are served
 abbrev pub serves_command : Command → Bool
 serves_command command.Tree = true
+serves_command command.Run = true
 serves_command _ = false
 
 -- the builders that are served
@@ -136,7 +139,7 @@ abbrev pub serves_probe : ProbeChoice → Bool
 serves_probe probe.Nobody = true
 serves_probe _ = false
 
--- the program serves the choices: the command `tree`, the builder `orig`, one step, and no probe
+-- the program serves the choices: the commands `tree` and `run`, the builder `orig`, one step, and no probe
 abbrev pub is_served : Choices → Bool
 is_served c = serves_command c.command && (serves_builder c.plan.builder && (c.steps == 1 && serves_probe c.probe))
 

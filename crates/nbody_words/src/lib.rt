@@ -6,7 +6,5 @@ mod plain;
 mod read;
 mod values;
 
-pub use options::{
-    Builder, Command, Kind, Law, Made, Options, OptionsFault, Plan, ProbeChoice, Shape,
-};
+pub use options::{Command, Kind, Made, Options, OptionsFault, ProbeChoice, Shape};
 pub use read::read_options;

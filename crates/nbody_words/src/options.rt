@@ -1,5 +1,6 @@
 //! What the words of a command line choose.
 
+use bh_model::Plan;
 use std::marker::Model;
 use thiserror::Error;
 
@@ -14,68 +15,6 @@ pub enum Command {
     Run,
     /// Makes a scene, runs it, and writes a summary of the last frame.
     Trial,
-}
-
-/// The way in which a tree is built (Shan and Singh, IPPS 1998).
-#[derive(Clone, Copy, Debug, PartialEq, Eq)]
-pub enum Builder {
-    /// All workers insert into one shared tree.
-    Orig,
-    /// The same, with the memory of cells parted among the workers.
-    Local,
-    /// The tree of the frame before is changed where bodies left their cells.
-    Update,
-    /// Each worker builds a tree of its own, and these are merged.
-    Partree,
-    /// Space is divided first, and each worker builds the trees of whole cubes.
-    Space,
-}
-
-/// The numbers by which bodies pull.
-///
-/// The opening parameter theta is `theta_num / theta_den`, the first from 0 to 65,535 and the second from 1 to 65,535
-/// (Barnes and Hut, Nature 324, 1986). `eps2`, below 2^44, is the square of the softening length, in squared positions.
-/// `g`, at most 2^40, is the constant of attraction. Contracts see it as a `PullLaw`, the record of these numbers.
-#[derive(Clone, Copy, Debug, PartialEq, Eq)]
-pub struct Law {
-    pub theta_num: u32,
-    pub theta_den: u32,
-    pub eps2: u64,
-    pub g: u64,
-}
-
-impl Model for Law {
-    ghost use Rattle.nbody_words.specs.Choices.{PullLaw, IsPullLaw};
-
-    ghost Value = { PullLaw };
-
-    ghost view = { λ l. record { theta_num = l.theta_num; theta_den = l.theta_den; eps2 = l.eps2; g = l.g } };
-
-    ghost invariant = { λ l. IsPullLaw (record { theta_num = l.theta_num; theta_den = l.theta_den; eps2 = l.eps2; g = l.g }) };
-
-    ghost inverse = { λ l. record { theta_num = l.theta_num; theta_den = l.theta_den; eps2 = l.eps2; g = l.g } };
-}
-
-/// How trees are built, by 1 to 64 workers, and the law by which bodies pull.
-///
-/// Contracts see it as a `TreePlan`, the record of the three.
-#[derive(Clone, Copy, Debug, PartialEq, Eq)]
-pub struct Plan {
-    pub builder: Builder,
-    pub workers: u32,
-    pub law: Law,
-}
-
-impl Model for Plan {
-    ghost use Rattle.nbody_words.specs.Choices.{TreePlan, HasWorkers};
-
-    ghost Value = { TreePlan };
-
-    ghost view = { λ p. record { builder = p.builder; workers = p.workers; law = p.law } };
-
-    ghost invariant = { λ p. HasWorkers p.workers };
-
-    ghost inverse = { λ p. record { builder = p.builder; workers = p.workers; law = p.law } };
 }
 
 /// A probe of a run, by what it watches.

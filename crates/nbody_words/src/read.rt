@@ -6,9 +6,10 @@ ghost use Rattle.clap.specs.Walk.{rule_of};
 ghost use Rattle.nbody_words.specs.Line.{command_rule, line, option_rule};
 ghost use Rattle.nbody_words.specs.Options.{Chooses, if_served, is_served, options_of};
 
-use crate::options::{Builder, Command, Options, OptionsFault, ProbeChoice};
+use crate::options::{Command, Options, OptionsFault, ProbeChoice};
 use crate::plain::{COMMAND, is_plain};
 use crate::values::choices_of;
+use bh_model::Builder;
 use clap::error::ErrorKind;
 use clap::{Arg, ArgAction};
 use std::alloc::{AllocError, Global};
@@ -55,7 +56,7 @@ fn command_line<'a>(alloc: Global) -> Result<clap::Command<'a>, AllocError>
 fn is_served(options: &Options) -> bool
     ensures { result ≡ is_served options.now }
 {
-    matches!(options.command, Command::Tree)
+    matches!(options.command, Command::Tree | Command::Run)
         && matches!(options.plan.builder, Builder::Orig)
         && options.steps == 1
         && matches!(options.probe, ProbeChoice::Nobody)

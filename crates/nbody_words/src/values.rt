@@ -3,11 +3,12 @@
 ghost use Rattle.std.specs.Prelude.{◌≡◌, ◌<◌, ◌≤◌, ◌==◌, ◌-◌, ◌^◌, IfSome, length, option_and_then, option_map, position};
 ghost use Rattle.clap.specs.Matches.{first_value, found_of};
 ghost use Rattle.nbody_words.specs.Options.{builder_of, choices_of, command_of, decimal_from, given_or, law_of, made_of, plan_of, probe_of, shape_of, theta_at, theta_of};
-ghost use Rattle.nbody_words.specs.declared.options.Builder.TheVariants as builder;
+ghost use Rattle.bh_model.specs.declared.plan.Builder.TheVariants as builder;
 ghost use Rattle.nbody_words.specs.declared.options.ProbeChoice.TheVariants as probe;
 ghost use Rattle.nbody_words.specs.declared.options.Shape.TheVariants as shape;
 
-use crate::options::{Builder, Command, Kind, Law, Made, Options, Plan, ProbeChoice, Shape};
+use crate::options::{Command, Kind, Made, Options, ProbeChoice, Shape};
+use bh_model::{Builder, Law, Plan};
 use clap::ArgMatches;
 use octant_code::read_decimal;
 

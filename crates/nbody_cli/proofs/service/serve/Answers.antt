@@ -1,3 +1,4 @@
+use Rattle.nbody_words.proofs.Served.{options_are_served}
 use Rattle.std.proofs.Common.{refl}
 use Rattle.nbody_cli.proofs.ServeFacts.{serves_long, serves_long_write, serves_memory, serves_read, serves_usage, serves_usage_write}
 use Rattle.nbody_cli.proofs.service.serve.Goals as goal
@@ -28,3 +29,6 @@ returns-in-Err-Failed-clause-serves g c = serves_read _ _ _ _ _ _ _ _ (rw c.in-O
 pub returns-in-Err-OutOfMemory-read_all-clause-serves :
     goal.returns-in-Err-OutOfMemory-read_all-clause-serves
 returns-in-Err-OutOfMemory-read_all-clause-serves g c = serves_memory _ _ _ _ _ _ _ _
+
+pub answer_scene-requires : goal.answer_scene-requires
+answer_scene-requires g c = options_are_served _ c.in-Ok.options c.in-Ok.ensures

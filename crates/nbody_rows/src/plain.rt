@@ -1,0 +1,112 @@
+//! The plain program and the engine on laws at both ends of their ranges, the greatest masses, and
+//! points at the corners of the cube.
+
+ghost use Rattle.std.specs.Prelude.{◌≡◌, ◌<◌, ◌≤◌, ◌^◌, IfOk, length, map};
+ghost use Rattle.bh_model.specs.Bodies.{numbers};
+ghost use Rattle.scene_file.specs.declared.bodies.Body.{Body};
+
+use bh_model::{Builder, Law, Plan, Pull, plain_pull};
+use frame_core::Engine;
+use octant_code::OutOfMemory;
+use scene_file::{Bodies, read_scene};
+use std::alloc::Global;
+use std::process::Abort;
+use std::test::Fail;
+
+/// The masses of bodies.
+fn masses_of(alloc: Global, bodies: &Bodies) -> Result<Vec<u32>, OutOfMemory>
+    ensures { IfOk result (λ masses. masses.items ≡ map (λ (b : Body). b.mass) bodies.now) }
+{
+    let mut masses = Vec::new(alloc);
+    for n in 0..bodies.len() {
+        match masses.push(bodies.get(n).mass) {
+            Ok(()) => {}
+            Err(_) => return Err(OutOfMemory),
+        }
+    }
+    Ok(masses)
+}
+
+/// The numbers below a count.
+fn numbers_below(alloc: Global, count: u32) -> Result<Vec<u32>, OutOfMemory>
+    ensures { IfOk result (λ list. list.items ≡ numbers count) }
+{
+    let mut list = Vec::new(alloc);
+    for n in 0..count {
+        match list.push(n) {
+            Ok(()) => {}
+            Err(_) => return Err(OutOfMemory),
+        }
+    }
+    Ok(list)
+}
+
+/// The pull on body `n`, by the plain program.
+fn plain_on(alloc: Global, bodies: &Bodies, law: &Law, n: u32) -> Result<Pull, OutOfMemory>
+    requires { n < length bodies.now }
+{
+    let count = bodies.len();
+    let points = bodies.points(alloc)?;
+    let masses = masses_of(alloc, bodies)?;
+    let all = numbers_below(alloc, count)?;
+    plain_pull(alloc, &points, &masses, law, n, &all)
+}
+
+/// Each body's pull and each zone are those of the plain program.
+fn agrees<R: Abort>(rt: &R, alloc: Global, scene: &[u8], law: Law) -> Result<(), Fail> {
+    let plan = Plan {
+        builder: Builder::Orig,
+        workers: 3,
+        law,
+    };
+    let bodies = read_scene(alloc, scene)?.bodies;
+    let mut engine = Engine::open(alloc, plan, read_scene(alloc, scene)?.bodies)?;
+    engine.tree()?;
+    let frame = engine.frame(rt)?;
+    assert_eq!(rt; frame.bodies, bodies.len());
+    for n in 0..frame.bodies {
+        assert_eq!(rt; engine.pull_of(n), plain_on(alloc, &bodies, &law, n)?);
+    }
+    Ok(())
+}
+
+/// Heavy bodies: pairs of neighbours in two corners of the cube, and a light one in the middle.
+const HEAVY: &[u8] =
+    b"body,4294967295,0,0,0\nbody,4294967295,1,0,0\nbody,4294967295,2097151,2097151,2097151\nbody,4294967295,2097151,2097151,2097150\nbody,1,1048576,1048575,7\nbody,77,1048575,0,2097151\n";
+
+/// A law by its numbers.
+fn law_of(theta_num: u32, theta_den: u32, eps2: u64, g: u64) -> Law
+    requires theta_num { theta_num ≤ 65535 }
+    requires theta_den { (1 ≤ theta_den) × (theta_den ≤ 65535) }
+    requires eps2 { eps2 < 2 ^ 44 }
+    requires g { g ≤ 2 ^ 40 }
+{
+    Law {
+        theta_num,
+        theta_den,
+        eps2,
+        g,
+    }
+}
+
+#[test]
+fn laws_without_gravitation_and_with_the_greatest(rt: HostRuntime) -> Result<(), Fail> {
+    agrees(&rt, rt.alloc(), HEAVY, law_of(1, 1, 0, 0))?;
+    agrees(&rt, rt.alloc(), HEAVY, law_of(1, 1, 0, 1))?;
+    agrees(&rt, rt.alloc(), HEAVY, law_of(1, 1, 0, 1 << 40))
+}
+
+#[test]
+fn laws_without_softening_and_with_the_greatest(rt: HostRuntime) -> Result<(), Fail> {
+    agrees(&rt, rt.alloc(), HEAVY, law_of(1, 1, 0, 1 << 32))?;
+    agrees(&rt, rt.alloc(), HEAVY, law_of(1, 1, 1, 1 << 32))?;
+    agrees(&rt, rt.alloc(), HEAVY, law_of(1, 1, (1 << 44) - 1, 1 << 40))
+}
+
+#[test]
+fn opening_angles_at_both_ends(rt: HostRuntime) -> Result<(), Fail> {
+    agrees(&rt, rt.alloc(), HEAVY, law_of(0, 1, 0, 1 << 32))?;
+    agrees(&rt, rt.alloc(), HEAVY, law_of(1, 65_535, 0, 1 << 32))?;
+    agrees(&rt, rt.alloc(), HEAVY, law_of(3, 2, 0, 1 << 32))?;
+    agrees(&rt, rt.alloc(), HEAVY, law_of(65_535, 1, 0, 1 << 32))
+}
