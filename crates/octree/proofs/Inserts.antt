@@ -44,7 +44,7 @@ pub insert_empty : (sites : List Site) (words : List ℕ) (base key place n v : 
 insert_empty sites words base key place n v h there inside empty under is =
     grafted sites words words (slice_set words place v) base Nothing (Only n) key place (body_word n) (record {
       before = h;
-      below = stands_body (site_at sites) (at_of (slice_set words place v)) key n under;
+      below = stands_body (site_at sites) (at_of (slice_set words place v)) key n (Only n) under;
       low = omega arith;
       there = there;
       no_cell = λ c e. omega (arith, empty);

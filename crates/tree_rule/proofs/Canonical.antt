@@ -1,5 +1,5 @@
 -- Words that stand for a list of bodies give the canonical octree of the list.
-use Rattle.std.proofs.Common.{ℕ, ◌+◌, ◌-◌, ◌*◌, ◌/◌, ◌%◌, ◌^◌, ◌<◌, ◌≤◌, ◌≡◌, zero, suc, refl, sym, ◌∙◌, ap, subst, inl, inr, arith, List, [], ◌∷◌, Bool, true, false, eqb}
+use Rattle.std.proofs.Common.{ℕ, ◌+◌, ◌-◌, ◌*◌, ◌/◌, ◌%◌, ◌^◌, ◌<◌, ◌≤◌, ◌≡◌, zero, suc, refl, sym, ◌∙◌, ap, subst, inl, inr, arith, List, [], ◌∷◌, Bool, eqb}
 use Rattle.std.specs.List.{filter}
 use Rattle.std.proofs.lemmas.Bool.{cases_lt, eqb-true, eq-eqb, eqb-false}
 use Rattle.std.proofs.Math.Nat.{pow-suc, pow-zero}
@@ -12,30 +12,23 @@ use Rattle.bh_model.specs.Bodies.{IsIn, NoneTwice}
 use Rattle.bh_model.specs.Trees.{Body, Empty, cell_of, in_octant, octree, octree_from}
 use Rattle.tree_rule.proofs.Flat.{word_over}
 use Rattle.tree_rule.specs.Flat.{Child, IsShared, IsWordOf, StandsFor, Top}
-use Rattle.tree_rule.specs.Words.{body_word, cell_word, child_place, tree_from}
+use Rattle.tree_rule.specs.Words.{body_word, cell_word, child_place, tree_from, tree_of_named}
+use Rattle.tree_rule.proofs.Names.{named-none, named-body, named-cell}
 
 -- the tree of the word 0
 pub tree-empty : (at : ℕ → ℕ) (below : ℕ) → tree_from at (suc below) 0 ≡ Empty
-unfolding tree_from
-tree-empty at below = refl
+unfolding tree_from tree_of_named
+tree-empty at below = ap (λ x. tree_of_named (λ c. cell_of (λ k. tree_from at below (at (child_place c k)))) x) named-none
 
 -- the tree of a body's word
 pub tree-body : (at : ℕ → ℕ) (below n : ℕ) → tree_from at (suc below) (body_word n) ≡ Body n
-unfolding tree_from
-tree-body at below n =
-    let a : eqb (body_word n) 0 ≡ false = not-eqb (body_word n) 0 (λ e. omega arith) in
-    let b : eqb (body_word n % 2) 1 ≡ true = eq-eqb (body_word n % 2) 1 (omega arith) in
-    let d : body_word n / 2 ≡ n = omega arith in
-    rw (a, b) (ap Body d)
+unfolding tree_from tree_of_named
+tree-body at below n = ap (λ x. tree_of_named (λ c. cell_of (λ k. tree_from at below (at (child_place c k)))) x) (named-body n)
 
 -- the tree of a cell's word is the cell of the trees of its child words
 pub tree-cell : (at : ℕ → ℕ) (below c : ℕ) → tree_from at (suc below) (cell_word c) ≡ cell_of (λ k. tree_from at below (at (child_place c k)))
-unfolding tree_from
-tree-cell at below c =
-    let a : eqb (cell_word c) 0 ≡ false = not-eqb (cell_word c) 0 (λ e. omega arith) in
-    let b : eqb (cell_word c % 2) 1 ≡ false = not-eqb (cell_word c % 2) 1 (λ e. omega arith) in
-    let d : cell_word c / 2 - 1 ≡ c = omega arith in
-    rw (a, b) (ap (λ x. cell_of (λ k. tree_from at below (at (child_place x k)))) d)
+unfolding tree_from tree_of_named
+tree-cell at below c = ap (λ x. tree_of_named (λ d. cell_of (λ k. tree_from at below (at (child_place d k)))) x) (named-cell c)
 
 -- equations that follow from each other have the same test
 eqb-iff : (a b c d : ℕ) → (a ≡ b → c ≡ d) → (c ≡ d → a ≡ b) → eqb a b ≡ eqb c d

@@ -75,13 +75,13 @@ fork_stands site at c key a b x n e two sa sb differ ux un wa wb others =
             subst (λ (y : ℕ). StandsFor site at (at (child_place c y)) (8 * key + y) (NoCell k) (AtTwo a x b n k)) (sym s)
             (subst (λ (y : ℕ). StandsFor site at y (8 * key + a) (NoCell k) (AtTwo a x b n k)) (sym wa)
             (stands_same site at (body_word x) (8 * key + a) Nothing (NoCell k) (Only x) (AtTwo a x b n k) (λ d. ((λ q. q), (λ q. q)))
-            (λ m. ((λ q. inl (s, q)), (λ q. elim q [ inl z ↦ z.1 | inr z ↦ absurd (differ (sym s ∙ z.0)) ]))) (stands_body site at (8 * key + a) x ux)))
+            (λ m. ((λ q. inl (s, q)), (λ q. elim q [ inl z ↦ z.1 | inr z ↦ absurd (differ (sym s ∙ z.0)) ]))) (stands_body site at (8 * key + a) x (Only x) ux)))
         | inr o ↦ elim (same_or_not k b) [
           | inl s ↦
               subst (λ (y : ℕ). StandsFor site at (at (child_place c y)) (8 * key + y) (NoCell k) (AtTwo a x b n k)) (sym s)
               (subst (λ (y : ℕ). StandsFor site at y (8 * key + b) (NoCell k) (AtTwo a x b n k)) (sym wb)
               (stands_same site at (body_word n) (8 * key + b) Nothing (NoCell k) (Only n) (AtTwo a x b n k) (λ d. ((λ q. q), (λ q. q)))
-              (λ m. ((λ q. inr (s, q)), (λ q. elim q [ inl z ↦ absurd (o z.0) | inr z ↦ z.1 ]))) (stands_body site at (8 * key + b) n un)))
+              (λ m. ((λ q. inr (s, q)), (λ q. elim q [ inl z ↦ absurd (o z.0) | inr z ↦ z.1 ]))) (stands_body site at (8 * key + b) n (Only n) un)))
           | inr p ↦
               stands_empty site at (at (child_place c k)) (8 * key + k) (NoCell k) (AtTwo a x b n k) (others k l o p) (λ d q. q)
               (λ m q. elim q [ inl z ↦ o z.0 | inr z ↦ p z.0 ])

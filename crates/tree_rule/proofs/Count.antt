@@ -1,5 +1,5 @@
 -- No cell is read twice, so there are no more than are used.
-use Rattle.std.proofs.Common.{ℕ, ◌+◌, ◌-◌, ◌*◌, ◌/◌, ◌%◌, ◌<◌, ◌≤◌, ◌≡◌, ◌≢◌, ◌⊎◌, zero, suc, refl, sym, ◌∙◌, ap, subst, inl, inr, arith, List, [], ◌∷◌, length, true, false, eqb, not}
+use Rattle.std.proofs.Common.{ℕ, ◌+◌, ◌*◌, ◌<◌, ◌≤◌, ◌≡◌, ◌≢◌, ◌⊎◌, zero, suc, refl, sym, ◌∙◌, ap, subst, inl, inr, arith, List, [], ◌∷◌, length, true, false, eqb, not}
 use Rattle.std.specs.List.{filter}
 use Rattle.std.proofs.lemmas.Bool.{cases_Bool, eqb-true, eq-eqb}
 use Rattle.octant_code.proofs.Keys.{same_parent}
@@ -9,7 +9,8 @@ use Rattle.bh_model.specs.Bodies.{IsIn, NoneTwice}
 use Rattle.tree_rule.proofs.Canonical.{ACell, NoBody, OneBody, WordIs, word_is}
 use Rattle.tree_rule.proofs.Sound.{keys_grow}
 use Rattle.tree_rule.specs.Sound.{BelowAs, IsReachedAs, IsSound}
-use Rattle.tree_rule.specs.Words.{body_word, cell_word, cells_from, child_place}
+use Rattle.tree_rule.specs.Words.{Named, BodyName, CellName, NoName, body_word, cell_word, cells_from, cells_of_named, child_place, named_by}
+use Rattle.tree_rule.proofs.Names.{named-none, named-body, named-cell}
 
 -- a key is that of a cube in the cube of another
 pub data IsKeyBelow (upper : ℕ) : ℕ → Type 0 where
@@ -40,29 +41,27 @@ child_in key i j _ pos p q d (Deeper parent k deep h l e) =
 pub child_in_child : (key i j : ℕ) → 1 ≤ key → i < 8 → j < 8 → IsKeyBelow (8 * key + i) (8 * key + j) → i ≡ j
 child_in_child key i j pos p q h = child_in key i j (8 * key + j) pos p q refl h
 
+-- the cells that are read below a word that names something
+cells-named : (at : ℕ → ℕ) (below w : ℕ) (x : Named) → named_by w ≡ x → cells_from at (suc below) w ≡ cells_of_named (λ y. joined (λ k. cells_from at below (at (child_place y k))) 8) x
+unfolding cells_from
+cells-named at below w x e = ap (λ z. cells_of_named (λ y. joined (λ k. cells_from at below (at (child_place y k))) 8) z) e
+
 -- no cell is read below the word 0
 pub cells-empty : (at : ℕ → ℕ) (below w : ℕ) → w ≡ 0 → cells_from at below w ≡ []
-unfolding cells_from
+unfolding cells_from cells_of_named
 cells-empty at zero w e = refl
-cells-empty at (suc below) w e = rw (eq-eqb w 0 e) refl
+cells-empty at (suc below) w e = cells-named at below w NoName (ap named_by e ∙ named-none)
 
 -- no cell is read below a body's word
 pub cells-body : (at : ℕ → ℕ) (below w n : ℕ) → w ≡ body_word n → cells_from at below w ≡ []
-unfolding cells_from
+unfolding cells_from cells_of_named
 cells-body at zero w n e = refl
-cells-body at (suc below) w n e =
-    let a : eqb w 0 ≡ false = not-eqb w 0 (λ f. omega arith) in
-    let b : eqb (w % 2) 1 ≡ true = eq-eqb (w % 2) 1 (omega arith) in
-    rw (a, b) refl
+cells-body at (suc below) w n e = cells-named at below w (BodyName n) (ap named_by e ∙ named-body n)
 
 -- below a cell's word that cell is read and those of its child words
 pub cells-cell : (at : ℕ → ℕ) (below w c : ℕ) → w ≡ cell_word c → cells_from at (suc below) w ≡ c ∷ joined (λ k. cells_from at below (at (child_place c k))) 8
-unfolding cells_from
-cells-cell at below w c e =
-    let a : eqb w 0 ≡ false = not-eqb w 0 (λ f. omega arith) in
-    let b : eqb (w % 2) 1 ≡ false = not-eqb (w % 2) 1 (λ f. omega arith) in
-    let d : w / 2 - 1 ≡ c = omega arith in
-    rw (a, b) (ap (λ y. y ∷ joined (λ k. cells_from at below (at (child_place y k))) 8) d)
+unfolding cells_of_named
+cells-cell at below w c e = cells-named at below w (CellName c) (ap named_by e ∙ named-cell c)
 
 -- a cell that is read below a word, with its key
 pub record IsReadIn (at : ℕ → ℕ) (top base upper d : ℕ) : Type 0 where

@@ -1,11 +1,15 @@
+pub mod Names
 pub mod Flat
 pub mod Graft
+pub mod Once
 pub mod Canonical
 pub mod Walk
 pub mod Parts
 pub mod Chain
 pub mod Sound
 pub mod Count
+pub mod Taken
 pub mod Published
+pub mod Noted
 pub mod Exact
 pub mod Tested

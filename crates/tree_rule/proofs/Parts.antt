@@ -6,7 +6,7 @@ use Rattle.octant_code.proofs.Keys.{key-positive, key-deeper}
 use Rattle.tree_rule.proofs.Flat.{below_top}
 use Rattle.tree_rule.proofs.Graft.{shared_more}
 use Rattle.tree_rule.proofs.Walk.{one_child}
-use Rattle.tree_rule.specs.Flat.{Child, IsShared, IsWordOf, StandsFor, Top}
+use Rattle.tree_rule.specs.Flat.{Child, IsShared, IsWordOf, StandsAmid, StandsFor, Top}
 use Rattle.tree_rule.specs.Words.{body_word, cell_word, child_place, key_place}
 
 -- the empty set
@@ -34,8 +34,8 @@ stands_none site at base = record {
 }
 
 -- a body's word stands for the body in a cube that its point lies in
-pub stands_body : (site : ℕ → Site) (at : ℕ → ℕ) (base n : ℕ) → IsUnder base (site n) → StandsFor site at (body_word n) base Nothing (Only n)
-stands_body site at base n u = record {
+pub stands_body : (site : ℕ → Site) (at : ℕ → ℕ) (base n : ℕ) (V : ℕ → Type 0) → IsUnder base (site n) → StandsAmid site at (body_word n) base Nothing (Only n) V
+stands_body site at base n V u = record {
   keys_differ = λ c d p q e. absurd p;
   cell_named = λ c p. absurd p;
   names_cell = λ key c x. let f = top_word at (body_word n) base key (cell_word c) x in absurd (omega arith);

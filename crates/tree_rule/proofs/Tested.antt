@@ -10,6 +10,7 @@ use Rattle.tree_rule.specs.Words.{body_word, cell_word, child_place, key_place}
 use Rattle.tree_rule.specs.Flat.{Child, Top}
 use Rattle.tree_rule.specs.Standing.{ChildWord, IsCellKey, IsPublished, NamesExactly, RootWord}
 use Rattle.tree_rule.specs.Tested.{AreBelow, HasOtherUnder, IsChildWord, IsNamedSomewhere, IsRightCell, NamesRightly}
+use Rattle.tree_rule.proofs.Names.{names_body, names_cell, word_of_body, word_of_cell}
 use Rattle.tree_rule.proofs.Exact.{IsWord, Stands, exact_of_stands, shared_of_two, word_published}
 
 -- the parts of the test together
@@ -57,7 +58,7 @@ exact_of_right site at cells bodies r = exact_of_stands site at cells bodies (st
 -- a published word names rightly where the words name exactly
 pub right_word : (site : ℕ → Site) (at : ℕ → ℕ) (cells bodies : List ℕ) → NamesExactly site at cells bodies
     → (place key : ℕ) → IsPublished at cells place key → NamesRightly site at cells bodies key (at place)
-right_word site at cells bodies h place key p = record { cell = λ c e. h.names_cell place key c p e; body = λ n e. h.names_body place key n p e }
+right_word site at cells bodies h place key p = record { cell = λ c e. h.names_cell place key c p (names_cell (at place) c e); body = λ n e. h.names_body place key n p (names_body (at place) n e) }
 
 -- each cell is right where the words name exactly
 pub right_cell : (site : ℕ → Site) (at : ℕ → ℕ) (cells bodies : List ℕ) → NamesExactly site at cells bodies → (c : ℕ) → IsIn cells c → IsRightCell site at cells bodies c
@@ -67,13 +68,13 @@ right_cell site at cells bodies h c p =
       level = h.levels c p;
       own_key = λ d q e. h.keys_differ c d p q e;
       two_under = h.two_under c p;
-      named = record { place = o.place; key = o.key; published = o.published; named = o.named };
+      named = record { place = o.place; key = o.key; published = o.published; named = word_of_cell (at o.place) c o.named };
       children = λ k l. right_word site at cells bodies h (child_place c k) (8 * at (key_place c) + k) (ChildWord c k p l refl refl);
     }
 
 -- each body is named where the words name exactly
 pub right_body : (site : ℕ → Site) (at : ℕ → ℕ) (cells bodies : List ℕ) → NamesExactly site at cells bodies → (n : ℕ) → IsIn bodies n → IsNamedSomewhere at cells (body_word n)
-right_body site at cells bodies h n b = let o = h.body_once n b in record { place = o.place; key = o.key; published = o.published; named = o.named }
+right_body site at cells bodies h n b = let o = h.body_once n b in record { place = o.place; key = o.key; published = o.published; named = word_of_body (at o.place) n o.named }
 
 -- where the words name exactly, all parts are right
 pub right_of_exact : (site : ℕ → Site) (at : ℕ → ℕ) (cells bodies : List ℕ) → NamesExactly site at cells bodies → AllRight site at cells bodies

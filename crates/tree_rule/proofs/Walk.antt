@@ -9,7 +9,7 @@ use Rattle.bh_model.specs.Trees.{octree, Tree, order}
 use Rattle.tree_rule.proofs.Canonical.{flat_gives_canonical, ACell, NoBody, OneBody, WordIs, tree-body, tree-cell, tree-empty, word_is}
 use Rattle.tree_rule.proofs.Flat.{below_top, word_over}
 use Rattle.tree_rule.proofs.Graft.{shared_more}
-use Rattle.tree_rule.specs.Flat.{Child, IsShared, IsWordOf, StandsFor, Top}
+use Rattle.tree_rule.specs.Flat.{Child, IsShared, IsWordOf, StandsAmid, StandsFor, Top}
 use Rattle.tree_rule.specs.Words.{Below, Here, IsReached, body_word, cell_word, child_place, key_place, tree_from}
 
 -- a word that is read is that of a key
@@ -159,9 +159,9 @@ word_same at top base P Q more key w (Top k e) = Top k e
 word_same at top base P Q more key w (Child c j p l k e) = Child c j (more c p) l k e
 
 -- the same facts over sets with the same members
-pub stands_same : (site : ℕ → Site) (at : ℕ → ℕ) (top base : ℕ) (P Q B M : ℕ → Type 0) → ((c : ℕ) → P c ↔ Q c) → ((n : ℕ) → B n ↔ M n)
-    → StandsFor site at top base P B → StandsFor site at top base Q M
-stands_same site at top base P Q B M pq bm h =
+pub amid_same : (site : ℕ → Site) (at : ℕ → ℕ) (top base : ℕ) (P Q B M V W : ℕ → Type 0) → ((c : ℕ) → P c ↔ Q c) → ((n : ℕ) → B n ↔ M n) → ((n : ℕ) → V n → W n)
+    → StandsAmid site at top base P B V → StandsAmid site at top base Q M W
+amid_same site at top base P Q B M V W pq bm vw h =
     let there : (key w : ℕ) → IsWordOf at top base P key w → IsWordOf at top base Q key w = λ key w x. word_same at top base P Q (λ c p. (pq c).0 p) key w x in
     let back : (key w : ℕ) → IsWordOf at top base Q key w → IsWordOf at top base P key w = λ key w x. word_same at top base Q P (λ c p. (pq c).1 p) key w x in
     record {
@@ -170,8 +170,13 @@ stands_same site at top base P Q B M pq bm h =
       names_cell = λ key c x. let f = h.names_cell key c (back key (cell_word c) x) in ((pq c).0 f.0, f.1);
       body_named = λ n b. let f = h.body_named n ((bm n).1 b) in record { level = f.level; shallow = f.shallow; named = there (key_of (site n) f.level) (body_word n) f.named };
       names_body = λ key n x. let f = h.names_body key n (back key (body_word n) x) in ((bm n).0 f.0, f.1);
-      shared = λ c p. shared_more site B M (at (key_place c)) (λ n b. (bm n).0 b) (h.shared c ((pq c).1 p));
+      shared = λ c p. shared_more site V W (at (key_place c)) vw (h.shared c ((pq c).1 p));
     }
+
+-- the same where the bodies are the witnesses
+pub stands_same : (site : ℕ → Site) (at : ℕ → ℕ) (top base : ℕ) (P Q B M : ℕ → Type 0) → ((c : ℕ) → P c ↔ Q c) → ((n : ℕ) → B n ↔ M n)
+    → StandsFor site at top base P B → StandsFor site at top base Q M
+stands_same site at top base P Q B M pq bm h = amid_same site at top base P Q B M B M pq bm (λ n b. (bm n).0 b) h
 
 -- the bodies of the words' tree, in tree order, are those of the set, and none stands twice
 pub order_members : (site : ℕ → Site) (at : ℕ → ℕ) (top base : ℕ) (P B : ℕ → Type 0) → StandsFor site at top base P B
@@ -209,10 +214,10 @@ word_moved at at' top base P keys kids key w (Top k e) = Top k e
 word_moved at at' top base P keys kids key w (Child c j p l k e) = Child c j p l (k ∙ ap (λ y. 8 * y + j) (sym (keys c p))) (e ∙ sym (kids c j p l))
 
 -- the same facts over other words, where the keys and the children of the cells are the same
-pub stands_moved : (site : ℕ → Site) (at at' : ℕ → ℕ) (top base : ℕ) (P B : ℕ → Type 0)
+pub amid_moved : (site : ℕ → Site) (at at' : ℕ → ℕ) (top base : ℕ) (P B V : ℕ → Type 0)
     → ((c : ℕ) → P c → at' (key_place c) ≡ at (key_place c)) → ((c k : ℕ) → P c → k < 8 → at' (child_place c k) ≡ at (child_place c k))
-    → StandsFor site at top base P B → StandsFor site at' top base P B
-stands_moved site at at' top base P B keys kids h =
+    → StandsAmid site at top base P B V → StandsAmid site at' top base P B V
+amid_moved site at at' top base P B V keys kids h =
     let there : (key w : ℕ) → IsWordOf at top base P key w → IsWordOf at' top base P key w = word_moved at at' top base P (λ c p. keys c p) kids in
     let back : (key w : ℕ) → IsWordOf at' top base P key w → IsWordOf at top base P key w =
     word_moved at' at top base P (λ c p. sym (keys c p)) (λ c k p l. sym (kids c k p l)) in
@@ -222,5 +227,11 @@ stands_moved site at at' top base P B keys kids h =
       names_cell = λ key c x. let f = h.names_cell key c (back key (cell_word c) x) in (f.0, keys c f.0 ∙ f.1);
       body_named = λ n b. let f = h.body_named n b in record { level = f.level; shallow = f.shallow; named = there (key_of (site n) f.level) (body_word n) f.named };
       names_body = λ key n x. h.names_body key n (back key (body_word n) x);
-      shared = λ c p. subst (λ (y : ℕ). IsShared site B y) (sym (keys c p)) (h.shared c p);
+      shared = λ c p. subst (λ (y : ℕ). IsShared site V y) (sym (keys c p)) (h.shared c p);
     }
+
+-- the same where the bodies are the witnesses
+pub stands_moved : (site : ℕ → Site) (at at' : ℕ → ℕ) (top base : ℕ) (P B : ℕ → Type 0)
+    → ((c : ℕ) → P c → at' (key_place c) ≡ at (key_place c)) → ((c k : ℕ) → P c → k < 8 → at' (child_place c k) ≡ at (child_place c k))
+    → StandsFor site at top base P B → StandsFor site at' top base P B
+stands_moved site at at' top base P B keys kids h = amid_moved site at at' top base P B B keys kids h

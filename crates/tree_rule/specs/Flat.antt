@@ -10,6 +10,14 @@ pub data IsWordOf (at : ℕ → ℕ) (top base : ℕ) (IsCell : ℕ → Type 0) 
   Top : key ≡ base → w ≡ top → IsWordOf at top base IsCell key w
   Child : (c k : ℕ) → IsCell c → k < 8 → key ≡ 8 * at (key_place c) + k → w ≡ at (child_place c k) → IsWordOf at top base IsCell key w
 
+-- the word of the cube of a key is the one that names a cell
+abbrev pub IsCellAt : (ℕ → ℕ) → ℕ → ℕ → (ℕ → Type 0) → ℕ → ℕ → Type 0
+IsCellAt at top base IsCell key c = IsWordOf at top base IsCell key (cell_word c)
+
+-- the word of the cube of a key is the one that names a body
+abbrev pub IsBodyAt : (ℕ → ℕ) → ℕ → ℕ → (ℕ → Type 0) → ℕ → ℕ → Type 0
+IsBodyAt at top base IsCell key n = IsWordOf at top base IsCell key (body_word n)
+
 -- Two bodies of the set lie in the cube of a key, which is of one of the levels that cells have.
 pub record IsShared (site : ℕ → Site) (IsBody : ℕ → Type 0) (key : ℕ) : Type 0 where
   pub level : ℕ
@@ -26,15 +34,15 @@ pub record IsShared (site : ℕ → Site) (IsBody : ℕ → Type 0) (key : ℕ) 
 pub record IsNamed (site : ℕ → Site) (at : ℕ → ℕ) (top base : ℕ) (IsCell : ℕ → Type 0) (n : ℕ) : Type 0 where
   pub level : ℕ
   pub shallow : level ≤ 21
-  pub named : IsWordOf at top base IsCell (key_of (site n) level) (body_word n)
+  pub named : IsBodyAt at top base IsCell (key_of (site n) level) n
 
 -- The words below the top word name a set of bodies with a set of cells, below each of which lie two bodies of a set of witnesses.
 pub record StandsAmid (site : ℕ → Site) (at : ℕ → ℕ) (top base : ℕ) (IsCell IsBody IsWitness : ℕ → Type 0) : Type 0 where
   pub keys_differ : (c d : ℕ) → IsCell c → IsCell d → at (key_place c) ≡ at (key_place d) → c ≡ d
-  pub cell_named : (c : ℕ) → IsCell c → IsWordOf at top base IsCell (at (key_place c)) (cell_word c)
-  pub names_cell : (key c : ℕ) → IsWordOf at top base IsCell key (cell_word c) → IsCell c × (at (key_place c) ≡ key)
+  pub cell_named : (c : ℕ) → IsCell c → IsCellAt at top base IsCell (at (key_place c)) c
+  pub names_cell : (key c : ℕ) → IsCellAt at top base IsCell key c → IsCell c × (at (key_place c) ≡ key)
   pub body_named : (n : ℕ) → IsBody n → IsNamed site at top base IsCell n
-  pub names_body : (key n : ℕ) → IsWordOf at top base IsCell key (body_word n) → IsBody n × IsUnder key (site n)
+  pub names_body : (key n : ℕ) → IsBodyAt at top base IsCell key n → IsBody n × IsUnder key (site n)
   pub shared : (c : ℕ) → IsCell c → IsShared site IsWitness (at (key_place c))
 
 -- The words stand for a set of bodies: its bodies are the witnesses.
@@ -55,10 +63,14 @@ pub record ChangedAt (at at' : ℕ → ℕ) (place w : ℕ) : Type 0 where
   pub now : at' place ≡ w
   pub others : (i : ℕ) → i ≢ place → at' i ≡ at i
 
+-- the published words of a list name a list of bodies, with a list of cells, amid a list of witnesses
+abbrev pub WordsStandAmid : List Site → List ℕ → List ℕ → List ℕ → List ℕ → Type 0
+WordsStandAmid sites words cells bodies witnesses = StandsAmid (site_at sites) (at_of words) (at_of words 0) 1 (IsIn cells) (IsIn bodies) (IsIn witnesses)
+
 -- the published words of a list stand for a list of bodies, with a list of cells
 abbrev pub WordsStandFor : List Site → List ℕ → List ℕ → List ℕ → Type 0
-WordsStandFor sites words cells bodies = StandsFor (site_at sites) (at_of words) (at_of words 0) 1 (IsIn cells) (IsIn bodies)
+WordsStandFor sites words cells bodies = WordsStandAmid sites words cells bodies bodies
 
--- the cells below a word that is not published, at a place and with the word there, stand for a list of bodies of the cube of a key
-abbrev pub PartStandsFor : List Site → List ℕ → ℕ → ℕ → List ℕ → List ℕ → Type 0
-PartStandsFor sites words top key cells bodies = StandsFor (site_at sites) (at_of words) top key (IsIn cells) (IsIn bodies)
+-- the cells below a word that is not published name a list of bodies of the cube of a key, amid a list of witnesses
+abbrev pub PartStandsAmid : List Site → List ℕ → ℕ → ℕ → List ℕ → List ℕ → List ℕ → Type 0
+PartStandsAmid sites words top key cells bodies witnesses = StandsAmid (site_at sites) (at_of words) top key (IsIn cells) (IsIn bodies) (IsIn witnesses)

@@ -2,4 +2,5 @@ pub mod Words
 pub mod Flat
 pub mod Sound
 pub mod Standing
+pub mod Notes
 pub mod Tested

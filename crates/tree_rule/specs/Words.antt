@@ -23,23 +23,52 @@ body_word n = 2 * n + 1
 abbrev pub cell_word : ℕ → ℕ
 cell_word c = 2 * c + 2
 
+-- What a word may name: nothing, a body, or a cell.
+pub data Named : Type 0 where
+  NoName : Named
+  BodyName : ℕ → Named
+  CellName : ℕ → Named
+
+-- what a word names: 0 nothing, an odd word a body, and an even one a cell
+unfoldable pub named_by : ℕ → Named
+named_by w = cond (eqb w 0) NoName (cond (eqb (w % 2) 1) (BodyName (w / 2)) (CellName (w / 2 - 1)))
+
+-- the word names nothing
+abbrev pub NamesNothing : ℕ → Type 0
+NamesNothing w = named_by w ≡ NoName
+
+-- the word names the body
+abbrev pub NamesBody : ℕ → ℕ → Type 0
+NamesBody w n = named_by w ≡ BodyName n
+
+-- the word names the cell
+abbrev pub NamesCell : ℕ → ℕ → Type 0
+NamesCell w c = named_by w ≡ CellName c
+
+-- the tree of what is named, where each cell has one
+unfoldable pub tree_of_named : (ℕ → Tree) → Named → Tree
+tree_of_named tree NoName = Empty
+tree_of_named tree (BodyName n) = Body n
+tree_of_named tree (CellName c) = tree c
+
 -- the tree that a word stands for, read to a depth
 unfoldable pub tree_from : (ℕ → ℕ) → ℕ → ℕ → Tree
 tree_from at zero w = Empty
-tree_from at (suc below) w =
-    cond (eqb w 0) Empty
-    (cond (eqb (w % 2) 1) (Body (w / 2))
-    (cell_of (λ k. tree_from at below (at (child_place (w / 2 - 1) k)))))
+tree_from at (suc below) w = tree_of_named (λ c. cell_of (λ k. tree_from at below (at (child_place c k)))) (named_by w)
+
+-- the cells of what is named, where others are read below each
+unfoldable pub cells_of_named : (ℕ → List ℕ) → Named → List ℕ
+cells_of_named others NoName = []
+cells_of_named others (BodyName n) = []
+cells_of_named others (CellName c) = c ∷ others c
 
 -- the cells that are read below a word, to a depth
 unfoldable pub cells_from : (ℕ → ℕ) → ℕ → ℕ → List ℕ
 cells_from at zero w = []
 cells_from at (suc below) w =
-    cond (eqb w 0) []
-    (cond (eqb (w % 2) 1) []
-    ((w / 2 - 1) ∷ (cells_from at below (at (child_place (w / 2 - 1) 0)) ++ cells_from at below (at (child_place (w / 2 - 1) 1)) ++ cells_from at below (at (child_place (w / 2 - 1) 2))
-    ++ cells_from at below (at (child_place (w / 2 - 1) 3)) ++ cells_from at below (at (child_place (w / 2 - 1) 4)) ++ cells_from at below (at (child_place (w / 2 - 1) 5))
-    ++ cells_from at below (at (child_place (w / 2 - 1) 6)) ++ cells_from at below (at (child_place (w / 2 - 1) 7)))))
+    cells_of_named (λ c. cells_from at below (at (child_place c 0)) ++ cells_from at below (at (child_place c 1)) ++ cells_from at below (at (child_place c 2))
+    ++ cells_from at below (at (child_place c 3)) ++ cells_from at below (at (child_place c 4)) ++ cells_from at below (at (child_place c 5))
+    ++ cells_from at below (at (child_place c 6)) ++ cells_from at below (at (child_place c 7))) (named_by w)
 
 -- A word that is read on the way down from the top word.
 pub data IsReached (at : ℕ → ℕ) (top : ℕ) : ℕ → Type 0 where

@@ -4,10 +4,12 @@
 #![tactic(auto)]
 
 mod laws;
+mod notes;
 mod stands;
 
 pub use laws::{
-    body_in_empty_word, cell_in_empty_word, cell_over_body, exact_words_stand,
-    flat_gives_canonical, flat_gives_own_order,
+    body_in_empty_word, body_out_of_word, cell_in_empty_word, cell_over_body, exact_words_stand,
+    flat_gives_canonical, flat_gives_own_order, more_witnesses,
 };
+pub use notes::{BodyNote, CellNote, notes_stay};
 pub use stands::words_stand;
