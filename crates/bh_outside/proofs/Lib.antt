@@ -1,3 +1,3 @@
-pub mod TookFacts
-pub mod TextFacts
-mod MemorySourceFacts
+pub mod Takings
+pub mod Texts
+mod MemorySources

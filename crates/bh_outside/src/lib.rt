@@ -14,4 +14,4 @@ pub use calls::{Input, ReadAllFault, read_all, write_all};
 pub use memory::{MemorySink, MemorySource, SureSink};
 pub use outside::{Failed, Sink, Source};
 pub use standard::{StdSink, StdSource};
-pub use text::Piece;
+pub use text::TextBuffer;

@@ -3,7 +3,7 @@
 ghost use Rattle.std.specs.Prelude.{◌≤◌};
 
 use crate::{
-    Failed, Input, MemorySink, MemorySource, Piece, ReadAllFault, Sink, SureSink, read_all,
+    Failed, Input, MemorySink, MemorySource, ReadAllFault, Sink, SureSink, TextBuffer, read_all,
     write_all,
 };
 use std::test::Fail;
@@ -60,11 +60,11 @@ fn sinks_of_memory(rt: HostRuntime) -> Result<(), Fail> {
 
 // Puts a text part by part, and finishes.
 fn put_parts<K: Sink>(sink: &mut K, part: &[u8], count: u32) -> Result<(), Failed> {
-    let mut piece = Piece::new();
+    let mut buffer = TextBuffer::new();
     for _number in 0..count {
-        piece.put(sink, part)?;
+        buffer.put(sink, part)?;
     }
-    piece.finish(sink)
+    buffer.finish(sink)
 }
 
 #[test]

@@ -1,4 +1,4 @@
-//! The piece in which the parts of a text wait for a sink.
+//! The buffer in which the parts of a text wait for a sink.
 
 ghost use Rattle.std.specs.Prelude.{◌≡◌, ◌+◌, ◌<◌, ◌≤◌, [], ◌∷◌, ◌++◌, length};
 ghost use Rattle.bh_outside.specs.Outside.{HasCause, Writes};
@@ -8,19 +8,19 @@ use crate::{Failed, Sink, write_all};
 use std::marker::Model;
 
 /// How many bytes can wait.
-const PIECE: usize = 65_536;
+const ROOM: usize = 65_536;
 
 /// Bytes of a text that wait for a sink: at most 65,536. Contracts see it as the list of these bytes.
 ///
 /// A text of many small parts is put part by part, and then finished. The sink is called once for
-/// each full piece and once at the end, and no memory is taken.
+/// each full buffer and once at the end, and no memory is taken.
 #[derive(Drop)]
-pub struct Piece {
+pub struct TextBuffer {
     bytes: [u8; 65536],
     filled: usize,
 }
 
-impl Model for Piece {
+impl Model for TextBuffer {
     ghost use Rattle.std.specs.Prelude.{◌≤◌, List, ℕ, take};
 
     ghost Value = { List ℕ };
@@ -30,19 +30,19 @@ impl Model for Piece {
     ghost invariant = { λ p. p.filled ≤ 65536 };
 }
 
-impl Piece {
-    /// A piece in which nothing waits.
-    pub fn new() -> Piece
+impl TextBuffer {
+    /// A buffer in which nothing waits.
+    pub fn new() -> TextBuffer
         ensures { result ≡ [] }
     {
-        Piece {
-            bytes: [0; PIECE],
+        TextBuffer {
+            bytes: [0; ROOM],
             filled: 0,
         }
     }
 
-    /// Puts a part of a text behind the bytes that wait. Whatever doesn't fit the piece any more is
-    /// written to the sink, in whole pieces.
+    /// Puts a part of a text behind the bytes that wait. Whatever doesn't fit the buffer any more is
+    /// written to the sink, in whole buffers.
     ///
     /// # Errors
     ///
@@ -53,7 +53,7 @@ impl Piece {
         ensures text { Puts (K.written sink.old) (K.written sink.new) self.old self.new text.now result }
         ensures cause { HasCause (K.faults sink.old) (K.faults sink.new) result }
     {
-        if text.len() <= PIECE - self.filled {
+        if text.len() <= ROOM - self.filled {
             self.keep(text);
             return Ok(());
         }
@@ -71,7 +71,7 @@ impl Piece {
         ensures text { Puts (K.written sink.old) (K.written sink.new) self.old self.new (byte ∷ []) result }
         ensures cause { HasCause (K.faults sink.old) (K.faults sink.new) result }
     {
-        if self.filled < PIECE {
+        if self.filled < ROOM {
             self.keep_byte(byte);
             return Ok(());
         }
@@ -121,8 +121,8 @@ impl Piece {
         ensures cause { HasCause (K.faults sink.old) (K.faults sink.new) result }
     {
         let mut rest = text;
-        while rest.len() > PIECE - self.filled {
-            let fits = PIECE - self.filled;
+        while rest.len() > ROOM - self.filled {
+            let fits = ROOM - self.filled;
             self.keep(&rest[..fits]);
             rest = &rest[fits..];
             match self.finish(sink) {

@@ -1,1 +1,1 @@
-mod FreeFacts
+mod Regions

@@ -1,7 +1,7 @@
 -- How a zone is gathered from the children of a cell.
 use Rattle.std.proofs.Common.{◌≡◌, ◌≤◌, ◌<◌, ◌+◌, ◌*◌, ℕ, suc, List, [], ◌∷◌, ◌++◌, length, refl, ap, ◌∙◌, sym, arith, add-one, append-nil, append_assoc, sum_by, map}
 use Rattle.std.proofs.lemmas.List.{map_push}
-use Rattle.std.proofs.Math.Nat.{mul-le-mul_left}
+use Rattle.std.proofs.Math.Nat.{mul-le-mul_left, mul-le-mul_right}
 use Rattle.bh_model.proofs.Lists.{joined}
 use Rattle.bh_model.proofs.Totals.{sum_upto, sum_upto-le, sum_upto-more, total-cell, total-order}
 use Rattle.bh_model.proofs.Trees.{order-body, order-empty}
@@ -34,14 +34,14 @@ steps_more levels x y first s r h k = omega arith
 
 pub gathered_more : (cost : ℕ → ℕ) (W C w p : ℕ) (child : ℕ → Tree) (levels : ℕ) (start : List ℕ) (first k : ℕ) (items next : List ℕ) (at steps more c child_levels : ℕ) (tree : Tree)
     → IsGathered cost W C w p child levels start first k items at steps → tree ≡ child k → next ≡ items ++ zone_from cost W C at (order tree) w
-    → more ≤ steps + child_levels * weight cost W C w at tree → child_levels ≡ levels → c ≡ total cost tree
+    → more ≤ steps + child_levels * weight cost W C w at tree → child_levels ≤ levels → c ≡ total cost tree
     → IsGathered cost W C w p child levels start first (k + 1) next (at + c) more
 gathered_more cost W C w p child levels start first k items next at steps more c child_levels tree done same next_is few level c_is =
     let before : ℕ = p + sum_upto (λ j. total cost (child j)) k in
     let own : weight cost W C w at tree ≡ child_weight cost W C w p child k = ap (λ q. weight cost W C w q tree) done.at_is ∙ ap (weight cost W C w before) same in
     let zone : zone_from cost W C at (order tree) w ≡ child_zone cost W C w p child k =
     ap (λ q. zone_from cost W C q (order tree) w) done.at_is ∙ ap (λ t. zone_from cost W C before (order t) w) same in
-    let few' : more ≤ steps + levels * child_weight cost W C w p child k = omega (arith, few, ap (λ x. x * weight cost W C w at tree) level, ap (λ x. levels * x) own) in
+    let few' : more ≤ steps + levels * child_weight cost W C w p child k = omega (arith, few, mul-le-mul_right (weight cost W C w at tree) level, ap (λ x. levels * x) own) in
     record {
       at_is = omega (arith, done.at_is, c_is, ap (total cost) same, sum_upto-more (λ j. total cost (child j)) k);
       items_are = next_is ∙ ap (λ zs. items ++ zs) zone ∙ ap (λ zs. zs ++ child_zone cost W C w p child k) done.items_are
@@ -117,7 +117,7 @@ zone_body-before cost W C w p n tree e share low =
 
 -- the steps where the descent breaks off in a child
 pub broken_steps : (cost : ℕ → ℕ) (W C w p : ℕ) (child : ℕ → Tree) (levels : ℕ) (start : List ℕ) (first k : ℕ) (items : List ℕ) (at steps more child_levels : ℕ) (part tree : Tree) (all_levels : ℕ)
-    → IsGathered cost W C w p child levels start first k items at steps → k < 8 → part ≡ child k → more ≤ steps + child_levels * weight cost W C w at part → child_levels ≡ levels
+    → IsGathered cost W C w p child levels start first k items at steps → k < 8 → part ≡ child k → more ≤ steps + child_levels * weight cost W C w at part → child_levels ≤ levels
     → tree ≡ cell_of child → 1 ≤ weight cost W C w p tree → all_levels ≡ suc levels → more ≤ first + all_levels * weight cost W C w p tree
 broken_steps cost W C w p child levels start first k items at steps more child_levels part tree all_levels done small same few level whole heavy deeper =
     let next : List ℕ = items ++ zone_from cost W C at (order part) w in
@@ -140,10 +140,10 @@ zone_free cost W w x read tree one e none same =
     sym (zone_whole cost W w x read tree e same) ∙ zone-none cost W x 0 (order read) w one (omega (arith, total-order cost read))
 
 -- the cells that were opened on the whole way
-pub steps_whole : (cost : ℕ → ℕ) (W w x : ℕ) (read tree : Tree) (before after : ℕ) → x ≡ total cost read → read ≡ tree → after ≤ before + 21 * weight cost W x w 0 read
+pub steps_whole : (cost : ℕ → ℕ) (W w x levels : ℕ) (read tree : Tree) (before after : ℕ) → x ≡ total cost read → read ≡ tree → levels ≤ 21 → after ≤ before + levels * weight cost W x w 0 read
     → after ≤ before + 21 * (length (zone cost W w tree) + 1)
-steps_whole cost W w x read tree before after e same few =
-    omega (arith, few, weight_root cost W x w read, ap length (zone_whole cost W w x read tree e same))
+steps_whole cost W w x levels read tree before after e same low few =
+    omega (arith, few, mul-le-mul_right (weight cost W x w 0 read) low, weight_root cost W x w read, ap length (zone_whole cost W w x read tree e same))
 
 -- one zone more
 numbers_more : (n : ℕ) → numbers (n + 1) ≡ numbers n ++ (n ∷ [])

@@ -15,9 +15,6 @@ use std::alloc::Global;
 use std::marker::Brand;
 use std::sync::ledger::{Blank, Ledger};
 
-/// How many words lie on a way down from the root, its own and the last among them.
-const WORDS: u32 = 22;
-
 /// Zone `w` of 1 to 64 workers, with its bodies in tree order (costzones: Singh, Holt, Totsuka, Gupta
 /// and Hennessy, JPDC 1995). It is read off on the way down from the root. A step is a cell that is
 /// opened: at most 21 for each body of the zone, and 21 more.
@@ -38,22 +35,21 @@ pub fn zone<L: Ledger>(
     ensures items { IfOk result (λ z. z.items ≡ zone (cost_at costs.now) workers w (tree_of tree.now)) }
     ensures steps { steps.new ≤ steps.old + 21 * (length (zone (cost_at costs.now) workers w (tree_of tree.now)) + 1) }
 {
-    let _rule = tree.held();
     let mut bodies = Vec::new(alloc);
-    let root = tree.root();
-    let whole = cost_of(tree, moments, costs, root);
+    let root = tree.whole();
+    root.has_bodies_of_octree();
+    let whole = cost_of(&root, moments, costs);
     if whole == 0 {
         return Ok(bodies);
     }
     let cut = Cut {
-        tree,
         moments,
         costs,
         whole,
         workers,
         w,
     };
-    descend(&cut, &mut bodies, root, WORDS, 0, steps)?;
+    descend(&cut, &mut bodies, &root, 0, steps)?;
     Ok(bodies)
 }
 

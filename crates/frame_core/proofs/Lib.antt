@@ -1,5 +1,5 @@
-pub mod RowFacts
-pub mod PushFacts
-pub mod CostFacts
-pub mod ZoneFacts
-pub mod FrameFacts
+pub mod Rows
+pub mod Pushes
+pub mod Costs
+pub mod Zones
+pub mod Frames

@@ -1,4 +1,3 @@
 pub mod Parts
-pub mod Under
 pub mod Fills
 pub mod Bounds

@@ -1,4 +1,4 @@
-//! The moments of the cells below a node, from the bodies up.
+//! The moments of the cells of a subtree, from the bodies up.
 
 ghost use Rattle.std.specs.Prelude.{◌≡◌, ◌<◌, ◌≤◌, ◌^◌, ℕ, length, slice_set};
 ghost use Rattle.bh_model.specs.Moments.{add_moment, centre_of, moment};
@@ -6,13 +6,12 @@ ghost use Rattle.bh_model.specs.Trees.{Body};
 ghost use Rattle.mass_moments.specs.Centred.{AreCentred};
 ghost use Rattle.mass_moments.specs.Filling.{AreFilled, AreProductsInCube, AreSmall};
 ghost use Rattle.mass_moments.specs.Kept.{cost_at, matter_of, moment_at};
-ghost use Rattle.octree.specs.Reading.{IsRead, tree_at};
-ghost use Rattle.octree.specs.Stored.{IsStored};
+ghost use Rattle.octree.specs.Spot.{tree_under};
 ghost use Rattle.tree_rule.specs.Words.{HasBody, HasCell};
 
 use bh_model::Moment;
 use octant_code::Point;
-use octree::{Node, Octree};
+use octree::{Subtree, Top};
 use scene_file::Bodies;
 
 /// The moment of no body.
@@ -94,40 +93,35 @@ fn put(list: &mut [Moment], centres: &mut [Point], c: usize, m: Moment)
     }
 }
 
-/// Puts the moment of each cell below a node at the cell's number, and returns the node's own, which is
-/// the sum of its children's. The depth is how many words are to be read from the node's own on.
+/// Puts the moment of each cell of a subtree at the cell's number, and returns the subtree's own, which is
+/// the sum of its children's.
 pub fn fill(
-    tree: &Octree,
+    at: &Subtree,
     bodies: &Bodies,
     costs: &[u32],
     list: &mut [Moment],
     centres: &mut [Point],
-    node: Node,
-    below: u32,
 ) -> Moment
-    requires rule { IsStored tree.now }
-    requires read { IsRead tree.now below node }
-    requires bodies_in { (n : ℕ) → HasBody tree.now.words n → n < length bodies.now }
+    requires bodies_in { (n : ℕ) → HasBody at.now.octree.words n → n < length bodies.now }
     requires one_cost_each { length costs.now ≡ length bodies.now }
-    requires cells_in { (c : ℕ) → HasCell tree.now.words c → c < length list.old }
-    requires small { AreSmall (matter_of bodies.now) (cost_at costs.now) (tree_at tree.now below node) }
+    requires cells_in { (c : ℕ) → HasCell at.now.octree.words c → c < length list.old }
+    requires small { AreSmall (matter_of bodies.now) (cost_at costs.now) (tree_under at.now) }
     requires centred { AreCentred list.old centres.old }
-    ensures value { result ≡ moment (matter_of bodies.now) (cost_at costs.now) (tree_at tree.now below node) }
+    ensures value { result ≡ moment (matter_of bodies.now) (cost_at costs.now) (tree_under at.now) }
     ensures inside { AreProductsInCube result }
-    ensures filled { AreFilled tree.now (matter_of bodies.now) (cost_at costs.now) node list.old list.new }
+    ensures filled { AreFilled (matter_of bodies.now) (cost_at costs.now) at.now list.old list.new }
     ensures centred { AreCentred list.new centres.new }
 {
-    match node {
-        Node::Empty => NO_MOMENT,
-        Node::Body(n) => of_body(bodies, costs, n),
-        Node::Cell(c) => {
+    match at.top() {
+        Top::Nothing => NO_MOMENT,
+        Top::Body(n) => of_body(bodies, costs, n),
+        Top::Cell(cell) => {
             let mut whole = NO_MOMENT;
             for k in 0..8 {
-                let child = tree.child(c, k);
-                let part = fill(tree, bodies, costs, list, centres, child, below - 1);
+                let part = fill(&cell.child(k), bodies, costs, list, centres);
                 whole = sum(whole, part);
             }
-            put(list, centres, c.0 as usize, whole);
+            put(list, centres, cell.number().0 as usize, whole);
             whole
         }
     }

@@ -34,7 +34,6 @@ pub fn moments<R>(
     let Ok(mut centres) = vec![in alloc; ORIGIN; used] else {
         return Err(OutOfMemory);
     };
-    let root = tree.root();
-    let _whole = fill(tree, bodies, costs, &mut list, &mut centres, root, 22);
+    let _whole = fill(&tree.whole(), bodies, costs, &mut list, &mut centres);
     Ok(Moments::with_centres(list, centres))
 }

@@ -1,3 +1,3 @@
-mod NumberFacts
-mod FrameFacts
-mod ServeFacts
+mod Numbers
+mod Frames
+mod Serving

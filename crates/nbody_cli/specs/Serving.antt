@@ -6,7 +6,7 @@ use Rattle.scene_file.specs.Scene.{scene_of}
 use Rattle.scene_file.specs.declared.bodies.Body.{Body}
 use Rattle.scene_file.specs.declared.fault.SceneFault.{SceneFault}
 use Rattle.scene_file.specs.declared.fault.SceneFault.TheVariants as fault
-use Rattle.nbody_words.specs.Choices.{Choices}
+use Rattle.nbody_options.specs.Choices.{Choices}
 use Rattle.nbody_cli.specs.Text.{answer_text, usage_line}
 use Rattle.nbody_cli.specs.declared.status.Status.{Status}
 use Rattle.nbody_cli.specs.declared.status.Status.TheVariants as status

@@ -3,9 +3,9 @@ use Rattle.std.specs.Prelude.{ℕ, List, [], ◌∷◌, ◌++◌, Result, Ok, Er
 use Rattle.frame_core.specs.Frames.{tree_of_bodies}
 use Rattle.nbody_cli.specs.Frames.{frame_text}
 use Rattle.nbody_cli.specs.Lines.{line, tree_line}
-use Rattle.nbody_words.specs.Choices.{Choices}
-use Rattle.nbody_words.specs.declared.options.Command.{Command}
-use Rattle.nbody_words.specs.declared.options.Command.TheVariants as command
+use Rattle.nbody_options.specs.Choices.{Choices}
+use Rattle.nbody_options.specs.declared.options.Command.{Command}
+use Rattle.nbody_options.specs.declared.options.Command.TheVariants as command
 use Rattle.bh_model.specs.Zones.{first_costs}
 use Rattle.mass_moments.specs.Kept.{cost_at}
 use Rattle.scene_file.specs.declared.bodies.Body.{Body}

@@ -5,30 +5,34 @@ ghost use Rattle.bh_outside.specs.Outside.{HasCause};
 ghost use Rattle.bh_outside.specs.Text.{Puts};
 ghost use Rattle.nbody_cli.specs.Lines.{newline, spaced};
 
-use bh_outside::{Failed, Piece, Sink};
+use bh_outside::{Failed, Sink, TextBuffer};
 use itoa::{Buffer, Integer};
 
 /// Puts a number in decimal, after a space.
-fn put_number<I: Integer, K: Sink>(number: I, piece: &mut Piece, sink: &mut K) -> Result<(), Failed>
-    ensures text { Puts (K.written sink.old) (K.written sink.new) piece.old piece.new (32 ∷ I.text number) result }
+fn put_number<I: Integer, K: Sink>(
+    number: I,
+    buffer: &mut TextBuffer,
+    sink: &mut K,
+) -> Result<(), Failed>
+    ensures text { Puts (K.written sink.old) (K.written sink.new) buffer.old buffer.new (32 ∷ I.text number) result }
     ensures cause { HasCause (K.faults sink.old) (K.faults sink.new) result }
 {
-    piece.put_byte(sink, b' ')?;
-    let mut buffer = Buffer::new();
-    piece.put(sink, buffer.format(number).as_bytes())
+    buffer.put_byte(sink, b' ')?;
+    let mut digits = Buffer::new();
+    buffer.put(sink, digits.format(number).as_bytes())
 }
 
 /// Puts numbers in decimal, each after a space.
 pub fn put_numbers<I: Integer, K: Sink>(
     numbers: &[I],
-    piece: &mut Piece,
+    buffer: &mut TextBuffer,
     sink: &mut K,
 ) -> Result<(), Failed>
-    ensures text { Puts (K.written sink.old) (K.written sink.new) piece.old piece.new (spaced I.text numbers.now) result }
+    ensures text { Puts (K.written sink.old) (K.written sink.new) buffer.old buffer.new (spaced I.text numbers.now) result }
     ensures cause { HasCause (K.faults sink.old) (K.faults sink.new) result }
 {
     for number in numbers {
-        match put_number(*number, piece, sink) {
+        match put_number(*number, buffer, sink) {
             Ok(()) => {}
             Err(failed) => return Err(failed),
         }
@@ -40,27 +44,27 @@ pub fn put_numbers<I: Integer, K: Sink>(
 pub fn put_part<I: Integer, K: Sink>(
     words: &[u8],
     numbers: &[I],
-    piece: &mut Piece,
+    buffer: &mut TextBuffer,
     sink: &mut K,
 ) -> Result<(), Failed>
-    ensures text { Puts (K.written sink.old) (K.written sink.new) piece.old piece.new (words.now ++ spaced I.text numbers.now) result }
+    ensures text { Puts (K.written sink.old) (K.written sink.new) buffer.old buffer.new (words.now ++ spaced I.text numbers.now) result }
     ensures cause { HasCause (K.faults sink.old) (K.faults sink.new) result }
 {
-    piece.put(sink, words)?;
-    put_numbers(numbers, piece, sink)
+    buffer.put(sink, words)?;
+    put_numbers(numbers, buffer, sink)
 }
 
 /// Puts a line: words, numbers in decimal, and a newline.
 pub fn put_line<I: Integer, K: Sink>(
     words: &[u8],
     numbers: &[I],
-    piece: &mut Piece,
+    buffer: &mut TextBuffer,
     sink: &mut K,
 ) -> Result<(), Failed>
-    ensures text { Puts (K.written sink.old) (K.written sink.new) piece.old piece.new (words.now ++ (spaced I.text numbers.now ++ newline)) result }
+    ensures text { Puts (K.written sink.old) (K.written sink.new) buffer.old buffer.new (words.now ++ (spaced I.text numbers.now ++ newline)) result }
     ensures cause { HasCause (K.faults sink.old) (K.faults sink.new) result }
 {
-    piece.put(sink, words)?;
-    put_numbers(numbers, piece, sink)?;
-    piece.put_byte(sink, b'\n')
+    buffer.put(sink, words)?;
+    put_numbers(numbers, buffer, sink)?;
+    buffer.put_byte(sink, b'\n')
 }

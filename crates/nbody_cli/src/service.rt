@@ -8,14 +8,14 @@ ghost use Rattle.nbody_cli.specs.Frames.{text_of_frame};
 ghost use Rattle.nbody_cli.specs.Lines.{tree_line};
 ghost use Rattle.nbody_cli.specs.Text.{command_text};
 ghost use Rattle.frame_core.specs.Frames.{tree_of_bodies};
-ghost use Rattle.nbody_words.specs.Options.{is_served, options_of};
+ghost use Rattle.nbody_options.specs.Options.{is_served, options_of};
 
 use crate::frame_text::write_frame;
 use crate::status::Status;
 use crate::text::{write_refused, write_tree_line, write_usage};
 use bh_outside::{Input, ReadAllFault, Sink, Source, read_all};
 use frame_core::Engine;
-use nbody_words::{Command, Options, OptionsFault, read_options};
+use nbody_options::{Command, Options, OptionsFault, read_options};
 use scene_file::{Bodies, MOST_BYTES, SceneFault, read_scene};
 
 /// Writes the frame of an engine whose bodies have their tree.

@@ -7,7 +7,7 @@ ghost use Rattle.nbody_cli.specs.Text.{refused_line, usage_line};
 ghost use Rattle.octree.specs.Stored.{tree_of};
 
 use crate::lines::put_line;
-use bh_outside::{Failed, Piece, Sink, write_all};
+use bh_outside::{Failed, Sink, TextBuffer, write_all};
 use octree::Octree;
 use scene_file::SceneFault;
 
@@ -24,13 +24,17 @@ pub fn write_usage<K: Sink>(sink: &mut K) -> Result<(), Failed>
 }
 
 /// Puts the line of a tree.
-pub fn put_tree_line<K: Sink>(tree: &Octree, piece: &mut Piece, sink: &mut K) -> Result<(), Failed>
-    ensures text { Puts (K.written sink.old) (K.written sink.new) piece.old piece.new (tree_line (tree_of tree.now)) result }
+pub fn put_tree_line<K: Sink>(
+    tree: &Octree,
+    buffer: &mut TextBuffer,
+    sink: &mut K,
+) -> Result<(), Failed>
+    ensures text { Puts (K.written sink.old) (K.written sink.new) buffer.old buffer.new (tree_line (tree_of tree.now)) result }
     ensures cause { HasCause (K.faults sink.old) (K.faults sink.new) result }
 {
-    piece.put(sink, b"tree ")?;
-    tree.put_text(piece, sink)?;
-    piece.put_byte(sink, b'\n')
+    buffer.put(sink, b"tree ")?;
+    tree.put_text(buffer, sink)?;
+    buffer.put_byte(sink, b'\n')
 }
 
 /// Writes the line of a tree.
@@ -38,9 +42,9 @@ pub fn write_tree_line<K: Sink>(sink: &mut K, tree: &Octree) -> Result<(), Faile
     ensures text { Writes (K.written sink.old) (K.written sink.new) (tree_line (tree_of tree.now)) result }
     ensures cause { HasCause (K.faults sink.old) (K.faults sink.new) result }
 {
-    let mut piece = Piece::new();
-    put_tree_line(tree, &mut piece, sink)?;
-    piece.finish(sink)
+    let mut buffer = TextBuffer::new();
+    put_tree_line(tree, &mut buffer, sink)?;
+    buffer.finish(sink)
 }
 
 /// Writes a line of words and numbers.
@@ -48,9 +52,9 @@ fn write_line<K: Sink>(sink: &mut K, words: &[u8], numbers: &[u32]) -> Result<()
     ensures text { Writes (K.written sink.old) (K.written sink.new) (line words.now numbers.now) result }
     ensures cause { HasCause (K.faults sink.old) (K.faults sink.new) result }
 {
-    let mut piece = Piece::new();
-    put_line(words, numbers, &mut piece, sink)?;
-    piece.finish(sink)
+    let mut buffer = TextBuffer::new();
+    put_line(words, numbers, &mut buffer, sink)?;
+    buffer.finish(sink)
 }
 
 /// Writes the line of a scene's fault; want of memory has none.

@@ -1,7 +1,7 @@
 //! The options of a few lines of words.
 
 use bh_model::Builder;
-use nbody_words::{Command, Options, OptionsFault, ProbeChoice, Shape, read_options};
+use nbody_options::{Command, Options, OptionsFault, ProbeChoice, Shape, read_options};
 use std::test::Fail;
 
 /// What the words have.

@@ -2,5 +2,5 @@ pub mod Keys
 pub mod InCube
 pub mod Roots
 pub mod Distances
-mod DecimalFacts
+mod Decimals
 mod SeenPoints

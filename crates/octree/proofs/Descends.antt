@@ -1,13 +1,13 @@
 -- A step of the way down.
-use Rattle.std.proofs.Common.{ℕ, ◌+◌, ◌-◌, ◌*◌, ◌/◌, ◌%◌, ◌<◌, ◌≤◌, ◌≡◌, ◌≢◌, refl, sym, ◌∙◌, ap, subst, arith, List, length, add-one, slice_index_or}
+use Rattle.std.proofs.Common.{ℕ, ◌+◌, ◌*◌, ◌<◌, ◌≤◌, ◌≡◌, refl, sym, ◌∙◌, ap, subst, arith, List, length, add-one, slice_index_or}
 use Rattle.std.proofs.lemmas.List.{get_or_read}
 use Rattle.octant_code.specs.Space.{Site, octant_of, key_of}
 use Rattle.octant_code.specs.Points.{site_at}
 use Rattle.octant_code.proofs.Keys.{key-suc, octant-small, same_level}
 use Rattle.octree.specs.Stored.{StandsWell}
 use Rattle.tree_rule.proofs.Graft.{word_at_place}
-use Rattle.tree_rule.specs.Flat.{ChildPlace, IsPlaceOf, IsWordOf}
-use Rattle.tree_rule.specs.Words.{HasCell, at_of, cell_word, key_place}
+use Rattle.tree_rule.specs.Flat.{ChildPlace, IsPlaceOf, IsWordOf, TopPlace}
+use Rattle.tree_rule.specs.Words.{Below, HasCell, Here, IsReached, at_of, cell_word, key_place}
 
 -- what a word that names a cell tells on the way down
 pub record StepsDown (words : List ℕ) (base : ℕ) (s : Site) (place level c : ℕ) : Type 0 where
@@ -15,27 +15,10 @@ pub record StepsDown (words : List ℕ) (base : ℕ) (s : Site) (place level c :
   pub shallow : level ≤ 20
   pub there : IsPlaceOf (at_of words) 0 base (HasCell words) (key_of s (level + 1)) (3 + 10 * c + octant_of s level)
 
--- a word that names a cell leads to the place of the child that holds the point
-pub steps_down : (sites : List Site) (words : List ℕ) (base : ℕ) (s : Site) (place level w : ℕ) → StandsWell sites words base
-    → IsPlaceOf (at_of words) 0 base (HasCell words) (key_of s level) place → w ≡ at_of words place → w ≢ 0 → w % 2 ≡ 0
-    → StepsDown words base s place level (w / 2 - 1)
-steps_down sites words base s place level w h there is some even =
-    let c : ℕ = w / 2 - 1 in
-    let shape : w ≡ cell_word c = omega arith in
-    let is_cell : at_of words place ≡ cell_word c = ◌∙◌ {a = at_of words place} (sym is) shape in
-    let x : IsWordOf (at_of words) (at_of words 0) base (HasCell words) (key_of s level) (cell_word c) =
-    subst (λ (y : ℕ). IsWordOf (at_of words) (at_of words 0) base (HasCell words) (key_of s level) y) is_cell (word_at_place (at_of words) 0 base (HasCell words) (key_of s level) place there) in
-    let f = h.names_cell (key_of s level) c x in
-    let t = h.shared c f.0 in
-    let l : t.level ≡ level = same_level (site_at sites t.one) s t.level level (sym t.one_under ∙ f.1) in
-    let next_key : key_of s (level + 1) ≡ 8 * at_of words (key_place c) + octant_of s level =
-    ap (key_of s) (add-one level) ∙ key-suc s level ∙ ap (λ y. 8 * y + octant_of s level) (sym f.1) in
-    record {
-      has_cell = f.0;
-      shallow = omega (arith, t.shallow);
-      there = ChildPlace c (octant_of s level) f.0 (octant-small s level)
-          next_key refl;
-    }
+-- a word at a place is read
+pub place_read : (words : List ℕ) (base key place : ℕ) → IsPlaceOf (at_of words) 0 base (HasCell words) key place → IsReached (at_of words) (at_of words 0) (at_of words place)
+place_read words base key place (TopPlace k e low) = Here (at_of words place) (ap (at_of words) e)
+place_read words base key place (ChildPlace c j p l k e) = Below c j (at_of words place) p l (ap (at_of words) e)
 
 -- where the way down has come to
 pub record IsOnTheWay (sites : List Site) (words : List ℕ) (n from place level : ℕ) : Type 0 where
@@ -44,9 +27,19 @@ pub record IsOnTheWay (sites : List Site) (words : List ℕ) (n from place level
   pub below : from ≤ level
   pub inside : place < length words
 
--- and the way down goes on there
-pub stepped : (sites : List Site) (words : List ℕ) (n from place level w : ℕ) → StandsWell sites words (key_of (site_at sites n) from)
-    → IsOnTheWay sites words n from place level → w ≡ slice_index_or words place w → w ≢ 0 → w % 2 ≢ 1
-    → StepsDown words (key_of (site_at sites n) from) (site_at sites n) place level (w / 2 - 1)
-stepped sites words n from place level w h way is some even =
-    steps_down sites words (key_of (site_at sites n) from) (site_at sites n) place level w h way.there (get_or_read words place w way.inside is 0) some (omega arith)
+-- a word that names a cell leads to the place of the child that holds the point
+pub stepped : (sites : List Site) (words : List ℕ) (n from place level w c : ℕ) → StandsWell sites words (key_of (site_at sites n) from)
+    → IsOnTheWay sites words n from place level → w ≡ slice_index_or words place w → w ≡ cell_word c
+    → StepsDown words (key_of (site_at sites n) from) (site_at sites n) place level c
+stepped sites words n from place level w c h way read shape =
+    let s : Site = site_at sites n in
+    let base : ℕ = key_of s from in
+    let is_cell : at_of words place ≡ cell_word c = ◌∙◌ {a = at_of words place} (sym (get_or_read words place w way.inside read 0)) shape in
+    let x : IsWordOf (at_of words) (at_of words 0) base (HasCell words) (key_of s level) (cell_word c) =
+    subst (λ (y : ℕ). IsWordOf (at_of words) (at_of words 0) base (HasCell words) (key_of s level) y) is_cell (word_at_place (at_of words) 0 base (HasCell words) (key_of s level) place way.there) in
+    let f = h.names_cell (key_of s level) c x in
+    let t = h.shared c f.0 in
+    let l : t.level ≡ level = same_level (site_at sites t.one) s t.level level (sym t.one_under ∙ f.1) in
+    let next_key : key_of s (level + 1) ≡ 8 * at_of words (key_place c) + octant_of s level =
+    ap (key_of s) (add-one level) ∙ key-suc s level ∙ ap (λ y. 8 * y + octant_of s level) (sym f.1) in
+    record { has_cell = f.0; shallow = omega (arith, t.shallow); there = ChildPlace c (octant_of s level) f.0 (octant-small s level) next_key refl }

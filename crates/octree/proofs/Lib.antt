@@ -5,10 +5,10 @@ mod Chains
 mod Descends
 mod Inserts
 pub mod Texts
-mod Orders
 mod Counts
-mod Depths
 pub mod Roomier
 mod WholeWords
 mod Builds
 pub mod Reading
+pub mod Subtrees
+pub mod Folds

@@ -67,7 +67,7 @@ child_read o below key k c node stored r small e =
     }
 
 -- a word of any level is read from a level that trees have
-level_left : (o : Stored) (below key w : ℕ) → IsStored o → IsReachedAs (at_of o.words) (root_word o) o.base key w → below ≤ 22 → 8 ^ (22 - below) ≤ key → 1 ≤ below
+pub level_left : (o : Stored) (below key w : ℕ) → IsStored o → IsReachedAs (at_of o.words) (root_word o) o.base key w → below ≤ 22 → 8 ^ (22 - below) ≤ key → 1 ≤ below
 level_left o zero _ _ stored (HereAs key w k e) s low =
     absurd (omega (arith, k, low, stored.base_high, pow8-mono o.level 21 stored.shallow))
 level_left o zero _ _ stored (BelowAs c k parent key w r l f e) s low = absurd (omega (arith, stored.sound.shallow parent c r, low, f))
@@ -101,7 +101,7 @@ pub child_tree_at : (o : Stored) (below k : ℕ) (c : CellNo) (node : Node) → 
 child_tree_at o below k c node e = ap (λ w. tree_from (at_of o.words) (below - 1) w) (sym (node_word (at_of o.words (child_place c.0 k)) node e))
 
 -- a tree that is read to a greater depth is the same
-tree_stays : (o : Stored) (below more key w : ℕ) → IsStored o → WordIs w → IsReachedAs (at_of o.words) (root_word o) o.base key w → below ≤ 22 → 8 ^ (22 - below) ≤ key
+pub tree_stays : (o : Stored) (below more key w : ℕ) → IsStored o → WordIs w → IsReachedAs (at_of o.words) (root_word o) o.base key w → below ≤ 22 → 8 ^ (22 - below) ≤ key
     → tree_from (at_of o.words) (below + more) w ≡ tree_from (at_of o.words) below w
 tree_stays o zero more key w stored is read s low = absurd (omega (arith, level_left o zero key w stored read s low))
 tree_stays o (suc below) more key w stored (NoBody e) read s low =

@@ -2,3 +2,5 @@ pub mod Stored
 pub mod Node
 pub mod Chain
 pub mod Reading
+pub mod Spot
+pub mod Subtree

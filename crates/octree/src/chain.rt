@@ -9,6 +9,7 @@ ghost use Rattle.octree.specs.Stored.{AreUnlocked, IsBlankFrom};
 ghost use Rattle.octree.specs.Chain.{IsOneOf, IsTaken};
 
 use octant_code::{Points, octant};
+use tree_rule::{word_of_body, word_of_cell};
 
 /// A cube by its key and its level.
 #[derive(Clone, Copy, Drop)]
@@ -51,11 +52,11 @@ pub fn part_two(words: &mut Vec<u64>, used: u32, points: &Points, x: u32, n: u32
             level: cube.level + 1,
         };
         let next = part_two(words, used + 1, points, x, n, inner);
-        words[cell + a as usize] = 2 * u64::from(used + 1) + 2;
+        words[cell + a as usize] = word_of_cell(used + 1);
         next
     } else {
-        words[cell + a as usize] = 2 * u64::from(x) + 1;
-        words[cell + b as usize] = 2 * u64::from(n) + 1;
+        words[cell + a as usize] = word_of_body(x);
+        words[cell + b as usize] = word_of_body(n);
         used + 1
     }
 }

@@ -9,7 +9,9 @@ mod descend;
 mod node;
 mod octree;
 mod order;
+mod subtree;
 mod text;
 
 pub use node::{CellNo, Node};
 pub use octree::Octree;
+pub use subtree::{CellAt, Subtree, Top};

@@ -6,8 +6,9 @@ use crate::depth::deepest_body;
 use crate::descend::find_place;
 use crate::node::{CellNo, Node, node_of};
 use crate::order::push_order;
-use crate::text::put_word;
-use bh_outside::{Failed, Piece, Sink};
+use crate::subtree::Subtree;
+use crate::text::put_tree;
+use bh_outside::{Failed, Sink, TextBuffer};
 use octant_code::{OutOfMemory, Points, key_at};
 use std::alloc::Global;
 use std::marker::Model;
@@ -60,6 +61,7 @@ impl Octree {
     ghost use Rattle.octree.specs.Node.{IsNodeOf};
     ghost use Rattle.octree.specs.Stored.{AreOctreeWords, IsCanonical, IsInserted, IsRoomier, IsStored, all_used, cells_of, full_tree, root_word, spare_of, tree_of};
     ghost use Rattle.octree.specs.Reading.{IsOctreeOf};
+    ghost use Rattle.octree.specs.Spot.{IsCellUnder, height, tree_under};
 
     /// The empty tree of the whole cube, with spare cells: at most 1,376,256.
     pub fn empty(alloc: Global, cells: u32) -> Result<Octree, OutOfMemory>
@@ -136,6 +138,29 @@ impl Octree {
         ensures { IsNodeOf (root_word self.now) result }
     {
         node_of(self.words[0])
+    }
+
+    /// The word at a place.
+    #[inline]
+    pub(crate) fn word_at(&self, place: usize) -> u64
+        requires { place < 3 + 10 * self.now.held }
+        ensures { result ≡ at_of self.now.words place }
+    {
+        self.words[place]
+    }
+
+    /// The whole octree as a subtree.
+    pub fn whole(&self) -> Subtree<'_>
+        ensures rule { IsStored self.now }
+        ensures octree { result.octree ≡ self.now }
+        ensures tree { tree_under result ≡ tree_of self.now }
+        ensures height { height (tree_under result) ≤ 21 }
+        ensures cells { (c : ℕ) → HasCell self.now.words c → IsCellUnder result c }
+    {
+        Subtree {
+            octree: self,
+            word: self.words[0],
+        }
     }
 
     /// The node at child `k`, 0 to 7, of a cell that can be reached.
@@ -227,7 +252,7 @@ impl Octree {
         ensures numbers { result ≡ length (cells_of self.now) }
         ensures tree { result ≡ cell_count (tree_of self.now) }
     {
-        count_cells(&self.words, self.words[0], 22, 0)
+        count_cells(&self.whole(), 0)
     }
 
     /// The greatest level of a word that names a body, counted from the root's word, which is of level
@@ -235,7 +260,7 @@ impl Octree {
     pub fn depth(&self) -> u32
         ensures { result ≡ depth (tree_of self.now) }
     {
-        deepest_body(&self.words, self.words[0], 22)
+        deepest_body(&self.whole(), 0)
     }
 
     /// The bodies in tree order: those of child 0 first, then those of child 1, and so on.
@@ -243,20 +268,20 @@ impl Octree {
         ensures { IfOk result (λ v. v.items ≡ order (tree_of self.now)) }
     {
         let mut bodies = Vec::new(alloc);
-        push_order(&self.words, self.words[0], 22, &mut bodies)?;
+        push_order(&self.whole(), &mut bodies)?;
         Ok(bodies)
     }
 
-    /// Puts the text of the tree behind the bytes that wait in a piece. It takes no memory.
+    /// Puts the text of the tree behind the bytes that wait in a buffer. It takes no memory.
     ///
     /// # Errors
     ///
     /// `Failed` only where the sink's count of faults rose.
-    pub fn put_text<K: Sink>(&self, piece: &mut Piece, sink: &mut K) -> Result<(), Failed>
-        ensures text { Puts (K.written sink.old) (K.written sink.new) piece.old piece.new (text (tree_of self.now)) result }
+    pub fn put_text<K: Sink>(&self, buffer: &mut TextBuffer, sink: &mut K) -> Result<(), Failed>
+        ensures text { Puts (K.written sink.old) (K.written sink.new) buffer.old buffer.new (text (tree_of self.now)) result }
         ensures cause { HasCause (K.faults sink.old) (K.faults sink.new) result }
     {
-        put_word(&self.words, self.words[0], 22, piece, sink)
+        put_tree(self.whole(), buffer, sink)
     }
 
     /// Writes the text of the tree: `.` for no body, `b` and the number for one, and for a cell the
@@ -269,9 +294,9 @@ impl Octree {
         ensures text { Writes (K.written out.old) (K.written out.new) (text (tree_of self.now)) result }
         ensures cause { HasCause (K.faults out.old) (K.faults out.new) result }
     {
-        let mut piece = Piece::new();
-        match self.put_text(&mut piece, out) {
-            Ok(()) => piece.finish(out),
+        let mut buffer = TextBuffer::new();
+        match self.put_text(&mut buffer, out) {
+            Ok(()) => buffer.finish(out),
             Err(failed) => Err(failed),
         }
     }

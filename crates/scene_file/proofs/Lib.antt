@@ -1,4 +1,4 @@
-pub mod BodyFacts
+pub mod BodyLists
 pub mod ReadBack
-pub mod RecordFacts
-pub mod SceneFacts
+pub mod Records
+pub mod Scenes

@@ -27,8 +27,8 @@ use Rattle.scene_file.specs.Bodies.{AreBodies, body_at, nobody, number_at, sites
 use Rattle.scene_file.specs.Scene.{bodies_after, body_of, joined, scene_of}
 use Rattle.scene_file.specs.Text.{body_text, text_of_scene}
 use Rattle.scene_file.specs.declared.bodies.Body.{Body}
-use Rattle.scene_file.proofs.BodyFacts.{same_coordinates-true, total_mass-push}
-use Rattle.scene_file.proofs.RecordFacts.{none_from}
+use Rattle.scene_file.proofs.BodyLists.{same_coordinates-true, total_mass-push}
+use Rattle.scene_file.proofs.Records.{none_from}
 
 -- the numbers of a body are within the ranges of their fields
 pub record IsInRanges (b : Body) : Type 0 where

@@ -4,3 +4,4 @@ pub mod Sound
 pub mod Standing
 pub mod Notes
 pub mod Tested
+pub mod Naming

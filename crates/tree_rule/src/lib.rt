@@ -6,6 +6,7 @@
 mod laws;
 mod notes;
 mod stands;
+mod words;
 
 pub use laws::{
     body_in_empty_word, body_out_of_word, cell_in_empty_word, cell_over_body, exact_words_stand,
@@ -13,3 +14,6 @@ pub use laws::{
 };
 pub use notes::{BodyNote, CellNote, notes_stay};
 pub use stands::words_stand;
+pub use words::{
+    Named, named_by, place_of_child, place_of_key, place_of_lock, word_of_body, word_of_cell,
+};

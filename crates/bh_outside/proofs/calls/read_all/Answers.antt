@@ -1,5 +1,5 @@
 use Rattle.std.proofs.Common.{◌++◌, take, arith, length-take, length-append}
-use Rattle.bh_outside.proofs.TookFacts.{gave_more}
+use Rattle.bh_outside.proofs.Takings.{gave_more}
 use Rattle.bh_outside.proofs.calls.read_all.Goals as goal
 
 pub returns-then-count-limit-clause-bytes : goal.returns-then-count-limit-clause-bytes

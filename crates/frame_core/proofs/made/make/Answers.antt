@@ -8,9 +8,9 @@ use Rattle.force_walk.specs.Walks.{pulls}
 use Rattle.mass_moments.specs.Kept.{cost_at, matter_of}
 use Rattle.octree.specs.Stored.{tree_of}
 use Rattle.frame_core.specs.Frames.{frame_figures, tree_of_bodies}
-use Rattle.frame_core.proofs.FrameFacts.{figures, met_is, pulls_count, pulls_on, push_is, same_figures}
-use Rattle.frame_core.proofs.PushFacts.{read_again}
-use Rattle.frame_core.proofs.ZoneFacts.{body_within, greatest_is, tree_is, zones_cover, zones_fit, zones_inside, zones_of}
+use Rattle.frame_core.proofs.Frames.{figures, met_is, pulls_count, pulls_on, push_is, same_figures}
+use Rattle.frame_core.proofs.Pushes.{read_again}
+use Rattle.frame_core.proofs.Zones.{body_within, greatest_is, tree_is, zones_cover, zones_fit, zones_inside, zones_of}
 use Rattle.frame_core.proofs.made.make.Goals as goal
 
 pub zones-requires-clause-costs_of_bodies : goal.zones-requires-clause-costs_of_bodies

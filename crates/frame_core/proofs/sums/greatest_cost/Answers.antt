@@ -1,7 +1,7 @@
 use Rattle.std.proofs.Common.{ap, ◌∙◌}
 use Rattle.bh_model.specs.Zones.{cost_of}
 use Rattle.mass_moments.specs.Kept.{cost_at}
-use Rattle.frame_core.proofs.CostFacts.{greatest_step}
+use Rattle.frame_core.proofs.Costs.{greatest_step}
 use Rattle.frame_core.proofs.sums.greatest_cost.Goals as goal
 
 pub loop-zone-preserved : goal.loop-zone-preserved

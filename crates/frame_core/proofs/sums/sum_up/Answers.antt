@@ -2,7 +2,7 @@ use Rattle.std.proofs.Common.{◌≡◌, ◌<◌, ◌^◌, ◌≤◌, ◌-◌, l
 use Rattle.bh_model.specs.Pulls.{no_pull}
 use Rattle.scene_file.specs.Bodies.{body_at, total_mass}
 use Rattle.frame_core.specs.Pushes.{pull_at}
-use Rattle.frame_core.proofs.PushFacts.{met-more, met-none, part_room, push_small, small_x, small_y, small_z, sum_more, sum_room, upto-none}
+use Rattle.frame_core.proofs.Pushes.{met-more, met-none, part_room, push_small, small_x, small_y, small_z, sum_more, sum_room, upto-none}
 use Rattle.frame_core.proofs.sums.sum_up.Goals as goal
 
 pub loop-n-init : goal.loop-n-init

@@ -1,7 +1,7 @@
 use Rattle.std.proofs.Common.{sym, ◌∙◌, ap}
 use Rattle.mass_moments.specs.Kept.{cost_at}
 use Rattle.tree_rule.specs.Words.{HasCell, Here, body_word, cell_word}
-use Rattle.frame_core.proofs.CostFacts.{cost_at_cell, cost_at_none, cost_at_one}
+use Rattle.frame_core.proofs.Costs.{cost_at_cell, cost_at_none, cost_at_one}
 use Rattle.frame_core.proofs.sums.whole_cost.Goals as goal
 
 pub bounds-costs-n : goal.bounds-costs-n

@@ -1,13 +1,14 @@
+use Rattle.octree.specs.Spot.{height, tree_under}
 use Rattle.mass_moments.proofs.Fills.{AreFilledUpTo}
 use Rattle.mass_moments.specs.Centred.{AreCentred}
 use Rattle.mass_moments.specs.Kept.{cost_at, matter_of}
 use Rattle.mass_moments.proofs.fill.+fill.Given as goal
 
 abbrev pub decreases-fill : goal.decreases-fill
-decreases-fill l = l.below
+decreases-fill l = height (tree_under l.at.now)
 
 abbrev pub invariant-loop-k : goal.invariant-loop-k
 invariant-loop-k l = record {
-  filled : AreFilledUpTo l.tree (matter_of l.bodies) (cost_at l.costs) l.below l.c l.k l.initial.list l.list l.whole;
+  filled : AreFilledUpTo (matter_of l.bodies) (cost_at l.costs) l.cell l.k l.initial.list l.list l.whole;
   centred : AreCentred l.list l.centres;
 }

@@ -1,28 +1,25 @@
-use Rattle.std.proofs.Common.{◌≡◌, ℕ, arith, ap, sym, ◌∙◌, subst, length, drop}
+use Rattle.std.proofs.Common.{◌≡◌, ◌∙◌, ap, arith, drop, length, subst, sym}
 use Rattle.std.proofs.lemmas.List.{length-map, take_at}
-use Rattle.tree_rule.specs.Words.{IsReached, at_of, cell_word}
-use Rattle.octree.proofs.Reading.{node_word, root_read, root_tree}
-use Rattle.octree.specs.Reading.{word_of}
-use Rattle.octree.specs.Stored.{root_word}
+use Rattle.tree_rule.specs.Words.{HasBody}
+use Rattle.octree.specs.Reading.{tree_below}
+use Rattle.octree.specs.Stored.{Stored}
 use Rattle.scene_file.specs.Bodies.{sites_of}
 use Rattle.scene_file.specs.declared.bodies.Body.{Body as BodyOf}
+use Rattle.bh_model.specs.Moments.{moment}
 use Rattle.mass_moments.proofs.Bounds.{small_octree}
 use Rattle.mass_moments.specs.Filling.{AreSmall}
 use Rattle.mass_moments.specs.Kept.{AreMoments, cost_at, matter_of}
 use Rattle.mass_moments.proofs.sums.moments.Goals as goal
 
-pub fill-whole-requires-clause-read : goal.fill-whole-requires-clause-read
-fill-whole-requires-clause-read g c = record { key = c.args.tree.now.base; at_key = root_read c.args.tree.now c.root-root.result c.held.ensures.rule c.root-root.ensures }
-
 pub fill-whole-requires-clause-bodies_in : goal.fill-whole-requires-clause-bodies_in
-fill-whole-requires-clause-bodies_in g c = λ n h. omega (arith, c.requires.octree.canonical.bodies_in n h, length-map c.args.bodies.now (λ (b : BodyOf). b.at))
+fill-whole-requires-clause-bodies_in g c = λ n h.
+    omega (arith, c.requires.octree.canonical.bodies_in n (subst (λ (o : Stored). HasBody o.words n) c.whole.ensures.octree h), length-map c.args.bodies.now (λ (b : BodyOf). b.at))
 
 pub fill-whole-requires-clause-small : goal.fill-whole-requires-clause-small
 fill-whole-requires-clause-small g c =
-    let o = c.args.tree.now in
     let bodies = c.args.bodies.now in
     let costs = c.args.costs.now in
-    subst (AreSmall (matter_of bodies) (cost_at costs)) (sym (root_tree o c.root-root.result c.root-root.ensures ∙ c.requires.octree.tree))
+    subst (AreSmall (matter_of bodies) (cost_at costs)) (sym (c.whole.ensures.tree ∙ c.requires.octree.tree))
     (small_octree bodies costs (length (sites_of bodies)) c.len-rule.ensures.rule (length-map bodies (λ (b : BodyOf). b.at)) c.requires.one_cost_each c.requires.costs)
 
 pub returns : goal.returns
@@ -31,10 +28,9 @@ returns g c =
     let m = matter_of c.args.bodies.now in
     let cost = cost_at c.args.costs.now in
     let filled = c.fill-whole.new.list in
-    let word : root_word o ≡ word_of c.root-root.result = node_word (root_word o) c.root-root.result c.root-root.ensures in
     let long : c.in-Ok.list.len ≡ length filled = omega (arith, c.in-Ok.list.ok.0, c.fill-whole.auto.list, c.deref_mut.ensures.len, ap length c.deref_mut.ensures.value) in
     let used : length filled ≡ o.used = omega (arith, c.in-Ok.ensures.len, long, c.held.ensures.value, c.held.ensures.rule.used_held) in
     subst (AreMoments o m cost) (sym (c.with_centres.ensures ∙ take_at filled (drop (length filled) c.in-Ok.list.items) c.in-Ok.list.len (sym long))) record {
       within = λ d h. omega (arith, c.held.ensures.rule.cells_used d h, used);
-      each = λ d h. c.fill-whole.ensures.filled.own d (subst (λ (w : ℕ). IsReached (at_of o.words) w (cell_word d)) word h);
+      each = λ d h. c.fill-whole.ensures.filled.own d (c.whole.ensures.cells d h) ∙ ap (λ (x : Stored). moment m cost (tree_below x d)) c.whole.ensures.octree;
     }

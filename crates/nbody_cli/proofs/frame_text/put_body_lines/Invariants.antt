@@ -5,4 +5,4 @@ use Rattle.nbody_cli.proofs.frame_text.put_body_lines.Given as goal
 
 abbrev pub invariant-loop-n : goal.invariant-loop-n
 invariant-loop-n g l =
-    PutsAll (g.K.Sink.written l.fn.sink) (g.K.Sink.written l.sink) l.fn.piece l.piece (lines_below (body_line_of l.engine) l.n) × (g.K.Sink.faults l.fn.sink ≤ g.K.Sink.faults l.sink)
+    PutsAll (g.K.Sink.written l.fn.sink) (g.K.Sink.written l.sink) l.fn.buffer l.buffer (lines_below (body_line_of l.engine) l.n) × (g.K.Sink.faults l.fn.sink ≤ g.K.Sink.faults l.sink)

@@ -1,9 +1,9 @@
 use Rattle.std.proofs.Common.{◌≡◌, ◌∙◌, List, ℕ, sym, ap, subst}
 use Rattle.frame_core.specs.Engines.{EngineState, opened, with_tree}
 use Rattle.frame_core.specs.Frames.{tree_of_bodies}
-use Rattle.nbody_words.specs.Choices.{Choices}
-use Rattle.nbody_words.specs.declared.options.Command.{Command}
-use Rattle.nbody_words.specs.declared.options.Command.TheVariants as command
+use Rattle.nbody_options.specs.Choices.{Choices}
+use Rattle.nbody_options.specs.declared.options.Command.{Command}
+use Rattle.nbody_options.specs.declared.options.Command.TheVariants as command
 use Rattle.nbody_cli.specs.Frames.{text_of_frame}
 use Rattle.nbody_cli.specs.Lines.{tree_line}
 use Rattle.nbody_cli.specs.Serving.{AnswersText}

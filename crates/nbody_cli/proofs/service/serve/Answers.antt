@@ -1,6 +1,6 @@
-use Rattle.nbody_words.proofs.Served.{options_are_served}
+use Rattle.nbody_options.proofs.Served.{options_are_served}
 use Rattle.std.proofs.Common.{refl}
-use Rattle.nbody_cli.proofs.ServeFacts.{serves_long, serves_long_write, serves_memory, serves_read, serves_usage, serves_usage_write}
+use Rattle.nbody_cli.proofs.Serving.{serves_long, serves_long_write, serves_memory, serves_read, serves_usage, serves_usage_write}
 use Rattle.nbody_cli.proofs.service.serve.Goals as goal
 
 pub returns-in-Err-OutOfMemory-clause-serves : goal.returns-in-Err-OutOfMemory-clause-serves

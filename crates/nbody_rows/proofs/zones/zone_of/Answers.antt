@@ -1,5 +1,5 @@
 use Rattle.std.proofs.Common.{ap, arith, length}
-use Rattle.frame_core.proofs.ZoneFacts.{body_within}
+use Rattle.frame_core.proofs.Zones.{body_within}
 use Rattle.nbody_rows.proofs.zones.zone_of.Goals as goal
 
 pub zone-requires-clause-costs_of_bodies : goal.zone-requires-clause-costs_of_bodies

@@ -1,5 +1,5 @@
 use Rattle.std.proofs.Common.{get_or, arith}
-use Rattle.octant_code.proofs.DecimalFacts.{digit_at, digit_low, digit_high, value_more}
+use Rattle.octant_code.proofs.Decimals.{digit_at, digit_low, digit_high, value_more}
 use Rattle.octant_code.proofs.decimal.capped_value.Goals as goal
 
 pub loop-byte-preserved : goal.loop-byte-preserved

@@ -1,5 +1,5 @@
 use Rattle.std.proofs.Common.{get_or, arith}
-use Rattle.octant_code.proofs.DecimalFacts.{digit_at, digit_low, digit_high, value_more, ten_fits, ten_more}
+use Rattle.octant_code.proofs.Decimals.{digit_at, digit_low, digit_high, value_more, ten_fits, ten_more}
 use Rattle.octant_code.proofs.decimal.short_value.Goals as goal
 
 pub overflow_mul-value : goal.overflow_mul-value

@@ -63,13 +63,13 @@ part_two-next-requires t c =
 
 pub returns-then-a-b-clause-kept : goal.returns-then-a-b-clause-kept
 returns-then-a-b-clause-kept t c = λ i l.
-    at_set_other c.part_two-next.new.words.items (3 + 10 * c.args.used + c.octant-a.result) i (2 * c.from-then-a-b.result + 2) (λ h. omega arith)
+    at_set_other c.part_two-next.new.words.items (3 + 10 * c.args.used + c.octant-a.result) i c.word_of_cell.result (λ h. omega arith)
     ∙ c.part_two-next.ensures.kept i (omega arith)
     ∙ at_set_other c.args.words.now.items (3 + 10 * c.args.used + 8) i c.args.cube.key (λ h. omega arith)
 
 pub returns-then-a-b-clause-unlocked : goal.returns-then-a-b-clause-unlocked
 returns-then-a-b-clause-unlocked t c =
-    unlocked_in_cell c.part_two-next.new.words.items c.args.used c.octant-a.result (2 * c.from-then-a-b.result + 2) c.part_two-next.ensures.unlocked (omega (arith, c.octant-a.ensures.small))
+    unlocked_in_cell c.part_two-next.new.words.items c.args.used c.octant-a.result c.word_of_cell.result c.part_two-next.ensures.unlocked (omega (arith, c.octant-a.ensures.small))
 
 pub returns-then-a-b-clause-stands : goal.returns-then-a-b-clause-stands
 returns-then-a-b-clause-stands t c =
@@ -79,19 +79,19 @@ returns-then-a-b-clause-stands t c =
     c.if-a-b.true ∙ c.octant-b.ensures.value ∙ ap (λ s. octant_of s c.args.cube.level) c.at-p.ensures.value in
     let room = c.requires.room in
     linked (site_at sites) c.args.words.now.items c.part_two-next.new.words.items c.args.used c.part_two-next.result c.octant-a.result c.args.cube.key c.args.cube.level c.args.x c.args.n
-    (2 * c.from-then-a-b.result + 2) c.part_two-next.ensures.len c.part_two-next.ensures.kept c.requires.blank (omega (arith, room, c.requires.shallow)) c.part_two-next.ensures.more
-    c.requires.shallow c.requires.differ c.requires.together key_is on (omega (arith, c.from-then-a-b.ensures)) c.part_two-next.ensures.stands
+    c.word_of_cell.result c.part_two-next.ensures.len c.part_two-next.ensures.kept c.requires.blank (omega (arith, room, c.requires.shallow)) c.part_two-next.ensures.more
+    c.requires.shallow c.requires.differ c.requires.together key_is on c.word_of_cell.ensures c.part_two-next.ensures.stands
 
 pub returns-else-a-b-clause-unlocked : goal.returns-else-a-b-clause-unlocked
 returns-else-a-b-clause-unlocked t c =
     let ws = c.args.words.now.items in
     let used = c.args.used in
-    let v = 2 * c.from-else-a-b.result + 1 in
+    let v = c.word_of_body.result in
     let first = slice_set ws (3 + 10 * used + 8) c.args.cube.key in
     let second = slice_set first (3 + 10 * used + c.octant-a.result) v in
     let keyed : AreUnlocked first = unlocked_in_cell ws used 8 c.args.cube.key c.requires.unlocked (omega arith) in
     let one : AreUnlocked second = unlocked_in_cell first used c.octant-a.result v keyed (omega (arith, c.octant-a.ensures.small)) in
-    unlocked_in_cell second used c.octant-b.result (2 * c.from-else-a-b-2.result + 1) one (omega (arith, c.octant-b.ensures.small))
+    unlocked_in_cell second used c.octant-b.result c.word_of_body-else-a-b.result one (omega (arith, c.octant-b.ensures.small))
 
 pub returns-else-a-b-clause-stands : goal.returns-else-a-b-clause-stands
 returns-else-a-b-clause-stands t c =
@@ -101,5 +101,5 @@ returns-else-a-b-clause-stands t c =
     let on : c.octant-b.result ≡ octant_of (site_at sites c.args.n) c.args.cube.level = c.octant-b.ensures.value ∙ ap (λ s. octant_of s c.args.cube.level) c.at-p.ensures.value in
     let room = c.requires.room in
     forked (site_at sites) c.args.words.now.items c.args.used c.octant-a.result c.octant-b.result c.args.cube.key c.args.cube.level c.args.x c.args.n
-    (2 * c.from-else-a-b.result + 1) (2 * c.from-else-a-b-2.result + 1) c.requires.blank (omega (arith, room, c.requires.shallow)) c.requires.shallow c.requires.differ c.requires.together
-    key_is ox on c.if-a-b.false (omega (arith, c.from-else-a-b.ensures)) (omega (arith, c.from-else-a-b-2.ensures))
+    c.word_of_body.result c.word_of_body-else-a-b.result c.requires.blank (omega (arith, room, c.requires.shallow)) c.requires.shallow c.requires.differ c.requires.together
+    key_is ox on c.if-a-b.false c.word_of_body.ensures c.word_of_body-else-a-b.ensures

@@ -1,11 +1,10 @@
-use Rattle.std.proofs.Common.{◌≡◌, ◌+◌, length}
-use Rattle.bh_model.proofs.Lists.{joined}
-use Rattle.tree_rule.specs.Words.{at_of}
-use Rattle.octree.proofs.Counts.{child_cells}
+use Rattle.std.proofs.Common.{◌≡◌, ◌+◌}
+use Rattle.octree.proofs.Folds.{counts}
+use Rattle.octree.specs.Spot.{child_under, height, tree_under}
 use Rattle.octree.proofs.count.+count_cells.Given as goal
 
 abbrev pub decreases-count_cells : goal.decreases-count_cells
-decreases-count_cells l = l.below
+decreases-count_cells l = height (tree_under l.at.now)
 
 abbrev pub invariant-loop-k : goal.invariant-loop-k
-invariant-loop-k l = l.count ≡ l.fn.so_far + 1 + length (joined (child_cells (at_of l.words.items) l.below l.word) l.k)
+invariant-loop-k l = l.count ≡ l.fn.so_far + 1 + counts (child_under l.cell) l.k

@@ -5,8 +5,8 @@ use Rattle.csv.specs.Records.{fields_of}
 use Rattle.csv.specs.declared.parser.State.TheVariants as st
 use Rattle.csv.proofs.ReadFacts.{rows-end, rows-more}
 use Rattle.scene_file.specs.Scene.{bodies_after, records_of, with_record}
-use Rattle.scene_file.proofs.RecordFacts.{count, records_front, records_all, strip_bom_short}
-use Rattle.scene_file.proofs.SceneFacts.{accepted_more, fault_is, refused_at}
+use Rattle.scene_file.proofs.Records.{count, records_front, records_all, strip_bom_short}
+use Rattle.scene_file.proofs.Scenes.{accepted_more, fault_is, refused_at}
 use Rattle.scene_file.proofs.scene.read_bodies.Goals as goal
 
 pub loop-number-init : goal.loop-number-init

@@ -1,4 +1,4 @@
-use Rattle.bh_outside.proofs.MemorySourceFacts.{gives_front}
+use Rattle.bh_outside.proofs.MemorySources.{gives_front}
 use Rattle.bh_outside.proofs.memory.MemorySourceSource.read_some.Goals as goal
 
 pub returns-clause-bytes : goal.returns-clause-bytes

@@ -1,7 +1,7 @@
 use Rattle.std.proofs.Common.{◌≡◌, ◌<◌, subst, sym, arith, length}
 use Rattle.bh_model.specs.Bodies.{IsIn, NoneTwice}
 use Rattle.cell_pool.specs.Free.{Free}
-use Rattle.cell_pool.proofs.FreeFacts.{once_more}
+use Rattle.cell_pool.proofs.Regions.{once_more}
 use Rattle.cell_pool.proofs.region.Region.give.Goals as goal
 
 pub invariant_of-self : goal.invariant_of-self

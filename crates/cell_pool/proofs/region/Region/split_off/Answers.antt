@@ -1,7 +1,7 @@
 use Rattle.std.proofs.Common.{◌≡◌, ◌-◌, ◌≤◌, ℕ, subst, sym, arith, length, ap, vec_capacity, Vec, Global}
 use Rattle.bh_model.specs.Bodies.{NoneTwice}
 use Rattle.cell_pool.specs.Free.{Free}
-use Rattle.cell_pool.proofs.FreeFacts.{once_drop, once_take}
+use Rattle.cell_pool.proofs.Regions.{once_drop, once_take}
 use Rattle.cell_pool.proofs.region.Region.split_off.Goals.{in-Ok, in-Err}
 use Rattle.cell_pool.proofs.region.Region.split_off.Goals as goal
 

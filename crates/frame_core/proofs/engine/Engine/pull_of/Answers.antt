@@ -3,7 +3,7 @@ use Rattle.std.proofs.lemmas.List.{get_or_read}
 use Rattle.bh_model.specs.Pulls.{no_pull}
 use Rattle.frame_core.specs.Engines.{EngineState, IsEngine}
 use Rattle.frame_core.specs.Frames.{tree_of_bodies}
-use Rattle.frame_core.proofs.FrameFacts.{pull_is, pulls_count}
+use Rattle.frame_core.proofs.Frames.{pull_is, pulls_count}
 use Rattle.frame_core.proofs.engine.Engine.pull_of.Goals as goal
 
 pub index-requires : goal.index-requires

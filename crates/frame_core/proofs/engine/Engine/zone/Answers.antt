@@ -2,7 +2,7 @@ use Rattle.std.proofs.Common.{◌<◌, ◌∙◌, ap, length, map, subst, arith}
 use Rattle.mass_moments.specs.Kept.{cost_at}
 use Rattle.frame_core.specs.Engines.{EngineState, IsEngine}
 use Rattle.frame_core.specs.Frames.{tree_of_bodies}
-use Rattle.frame_core.proofs.ZoneFacts.{zone_is, zones_count}
+use Rattle.frame_core.proofs.Zones.{zone_is, zones_count}
 use Rattle.frame_core.proofs.engine.Engine.zone.Goals as goal
 
 pub index-requires : goal.index-requires

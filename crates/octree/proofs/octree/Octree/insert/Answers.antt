@@ -3,6 +3,7 @@ use Rattle.octant_code.specs.Space.{IsInCube, Site}
 use Rattle.octant_code.specs.Points.{site_at}
 use Rattle.octree.proofs.Chains.{level_shallow}
 use Rattle.octree.proofs.Inserts.{IsBeside, IsDone, body_case, can_insert, empty_case, found_at, parted_case, stands_now, stored}
+use Rattle.octree.proofs.ReadWords.{word_small}
 use Rattle.octree.specs.Stored.{Stored}
 use Rattle.octree.proofs.octree.Octree.insert.Goals as goal
 
@@ -13,6 +14,10 @@ find_place-spot-requires-clause-stands c =
     let sites = c.args.points.now in
     let can = can_insert sites c.args.self.now o c.args.n c.self.view_is c.self.invariant c.len-rule.ensures.rule c.requires.n_in c.requires.under c.requires.canonical c.requires.fresh in
     stands_now sites c.args.self.now o c.args.n can
+
+pub find_place-spot-requires-clause-small : goal.find_place-spot-requires-clause-small
+find_place-spot-requires-clause-small c =
+    let f = c.self.inside in λ w r. word_small (stored f.words.items f.base f.level f.used f.held) w c.self.invariant r
 
 pub invariant_of-self : goal.invariant_of-self
 invariant_of-self c =

@@ -1,7 +1,7 @@
 use Rattle.std.proofs.Common.{rules, ◌≡◌, ◌∙◌, ◌+◌, ◌<◌, length, None, true, sym, arith}
 use Rattle.std.specs.Result.{is_ok}
 use Rattle.scene_file.specs.Bodies.{number_at, total_mass}
-use Rattle.scene_file.proofs.BodyFacts.{number_at-push, on_ok, rule-push, total_mass-push}
+use Rattle.scene_file.proofs.BodyLists.{number_at-push, on_ok, rule-push, total_mass-push}
 use Rattle.scene_file.proofs.gathering.Gathering.keep.Goals as goal
 
 pub invariant_of-self-2 : goal.invariant_of-self-2

@@ -1,0 +1,4 @@
+pub mod ClapLine
+pub mod PlainWords
+pub mod Reads
+pub mod Served

@@ -1,0 +1,100 @@
+//! Reading the options of a command line.
+
+ghost use Rattle.std.specs.Prelude.{◌≡◌, IfOk, false, map, string_bytes};
+ghost use Rattle.clap.specs.Simple.{app_of};
+ghost use Rattle.clap.specs.Walk.{rule_of};
+ghost use Rattle.nbody_options.specs.Line.{command_rule, line, option_rule};
+ghost use Rattle.nbody_options.specs.Options.{Chooses, if_served, is_served, options_of};
+
+use crate::options::{Command, Options, OptionsFault, ProbeChoice};
+use crate::plain::{COMMAND, is_plain};
+use crate::values::choices_of;
+use bh_model::Builder;
+use clap::error::ErrorKind;
+use clap::{Arg, ArgAction};
+use std::alloc::{AllocError, Global};
+
+// An option with a value.
+fn option_of<'a>(alloc: Global, name: &'a str) -> Arg<'a>
+    ensures rule { rule_of result ≡ option_rule name.entry.now }
+    ensures local { result.global ≡ false }
+{
+    Arg::new(alloc, name).long(name).action(ArgAction::Set)
+}
+
+// The command.
+fn command_word<'a>(alloc: Global) -> Arg<'a>
+    ensures rule { rule_of result ≡ command_rule }
+    ensures local { result.global ≡ false }
+{
+    Arg::new(alloc, COMMAND)
+        .action(ArgAction::Set)
+        .required(true)
+}
+
+// The command and the options, as clap is told them.
+fn command_line<'a>(alloc: Global) -> Result<clap::Command<'a>, AllocError>
+    ensures { IfOk result (λ c. app_of c ≡ line) }
+{
+    let bare = clap::Command::new(alloc, "nbody")
+        .no_binary_name(true)
+        .disable_help_flag(true);
+    bare.arg(command_word(alloc))?
+        .arg(option_of(alloc, "builder"))?
+        .arg(option_of(alloc, "workers"))?
+        .arg(option_of(alloc, "steps"))?
+        .arg(option_of(alloc, "theta"))?
+        .arg(option_of(alloc, "eps2"))?
+        .arg(option_of(alloc, "g"))?
+        .arg(option_of(alloc, "probe"))?
+        .arg(option_of(alloc, "count"))?
+        .arg(option_of(alloc, "seed"))?
+        .arg(option_of(alloc, "shape"))
+}
+
+// Whether the program serves the options.
+fn is_served(options: &Options) -> bool
+    ensures { result ≡ is_served options.now }
+{
+    matches!(options.command, Command::Tree | Command::Run)
+        && matches!(options.plan.builder, Builder::Orig)
+        && options.steps == 1
+        && matches!(options.probe, ProbeChoice::Nobody)
+}
+
+/// The options of the words that follow the program's name.
+///
+/// Usage is answered exactly where the words have no options: where they aren't one command and
+/// options with their values, each at most once, where a value breaks its rule, whatever the command
+/// is, and where the options aren't served yet. Words in the plain form are read by `clap`, which can
+/// then refuse them for want of memory alone.
+pub fn read_options(alloc: Global, words: &[String]) -> Result<Options, OptionsFault>
+    ensures { Chooses result (options_of (map string_bytes words.now)) }
+{
+    match is_plain(alloc, words) {
+        Ok(true) => {}
+        Ok(false) => return Err(OptionsFault::Usage),
+        Err(_) => return Err(OptionsFault::OutOfMemory),
+    }
+    let command = match command_line(alloc) {
+        Ok(command) => command,
+        Err(_) => return Err(OptionsFault::OutOfMemory),
+    };
+    let matches = match command.try_get_matches_from(words) {
+        Ok(matches) => matches,
+        Err(error) => match error.kind() {
+            ErrorKind::OutOfMemory => return Err(OptionsFault::OutOfMemory),
+            _ => unreachable!(),
+        },
+    };
+    match choices_of(&matches) {
+        Some(options) => {
+            if is_served(&options) {
+                Ok(options)
+            } else {
+                Err(OptionsFault::Usage)
+            }
+        }
+        None => Err(OptionsFault::Usage),
+    }
+}

@@ -1,4 +1,0 @@
-pub mod ClapLine
-pub mod PlainFacts
-pub mod ReadFacts
-pub mod Served

@@ -1,0 +1,50 @@
+-- A word that is read on the way down from the root of an octree, and the tree below it.
+use Rattle.std.specs.Prelude.{max, ◌+◌, ℕ, ◌-◌, ◌/◌, ◌^◌, ◌≤◌}
+use Rattle.bh_model.specs.Trees.{Tree, Empty, Body, Cell}
+use Rattle.tree_rule.specs.Words.{IsReached, at_of, cell_word, child_place, tree_from}
+use Rattle.tree_rule.specs.Sound.{IsReachedAs}
+use Rattle.octree.specs.Stored.{Stored, IsStored, root_word}
+
+-- an octree and one of its words
+pub record Spot : Type 0 where
+  pub octree : Stored
+  pub word : ℕ
+
+-- the word is read on the way down, with the key of a cube of a level
+pub record IsSpot (s : Spot) : Type 0 where
+  pub stored : IsStored s.octree
+  pub key : ℕ
+  pub level : ℕ
+  pub read : IsReachedAs (at_of s.octree.words) (root_word s.octree) s.octree.base key s.word
+  pub shallow : level ≤ 21
+  pub low : 8 ^ level ≤ key
+
+-- how many cells stand one inside the other in a tree
+unfoldable pub height : Tree → ℕ
+height Empty = 0
+height (Body n) = 0
+height (Cell a b c d e f g h) = 1 + max (height a) (max (height b) (max (height c) (max (height d) (max (height e) (max (height f) (max (height g) (height h)))))))
+
+-- the tree below a word
+abbrev pub tree_of_word : Stored → ℕ → Tree
+tree_of_word o word = tree_from (at_of o.words) 22 word
+
+-- the tree of a spot
+unfoldable pub tree_under : Spot → Tree
+tree_under s = tree_of_word s.octree s.word
+
+-- the number of the cell that a spot's word names
+unfoldable pub cell_at : Spot → ℕ
+cell_at s = s.word / 2 - 1
+
+-- the tree of a child of the cell
+unfoldable pub child_under : Spot → ℕ → Tree
+child_under s k = tree_of_word s.octree (at_of s.octree.words (child_place (s.word / 2 - 1) k))
+
+-- a cell stands below a spot, or at it
+unfoldable pub IsCellUnder : Spot → ℕ → Type 0
+IsCellUnder s d = IsReached (at_of s.octree.words) s.word (cell_word d)
+
+-- a cell stands below a child of a cell, or is that child
+unfoldable pub IsUnderChild : Spot → ℕ → ℕ → Type 0
+IsUnderChild s k d = IsReached (at_of s.octree.words) (at_of s.octree.words (child_place (s.word / 2 - 1) k)) (cell_word d)
