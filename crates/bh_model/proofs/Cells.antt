@@ -22,11 +22,11 @@ member_of_all P (x ∷ xs) n h (inl e) = subst P (sym e) (h 0 0 (omega arith))
 member_of_all P (x ∷ xs) n h (inr i) = member_of_all P xs n (λ k d l. h (suc k) d (omega arith)) i
 
 -- numbers of a list of points are bodies with points of the cube, no two of which are one
-pub placed_of_points : (sites : List Site) (bodies : List ℕ) → ArePoints sites → All IsInCube sites → All (λ n. n < length sites) bodies → ArePlaced (site_at sites) bodies
-placed_of_points sites bodies rule cube within =
+pub placed_of_points : (sites : List Site) (bodies : List ℕ) → ArePoints sites → All (λ n. n < length sites) bodies → ArePlaced (site_at sites) bodies
+placed_of_points sites bodies rule within =
     let inside : (n : ℕ) → IsIn bodies n → n < length sites = λ n i. member_of_all (λ m. m < length sites) bodies n within i in
     record {
-      in_cube = λ n i. cube n origin (inside n i);
+      in_cube = λ n i. rule.in_cube n origin (inside n i);
       apart = λ a b i j e. elim (cases_lt a b) [
         | inl l ↦ absurd (rule.apart a b l (inside b j) e)
         | inr l ↦ elim (cases_lt b a) [ inl m ↦ absurd (rule.apart b a m (inside a i) (sym e)) | inr m ↦ omega arith ]

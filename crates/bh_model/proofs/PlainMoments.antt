@@ -2,7 +2,7 @@
 use Rattle.std.proofs.Common.{◌≡◌, ◌≢◌, ◌≤◌, ◌<◌, ◌+◌, ◌-◌, ◌*◌, ◌^◌, ◌⊎◌, ℕ, zero, suc, List, [], ◌∷◌, All, length, get_or, refl, sym, ap, ◌∙◌, inl, inr, arith, sum_by}
 use Rattle.std.proofs.lemmas.List.Sums.{sum_by-cons}
 use Rattle.std.proofs.Math.Nat.{mul-le-mul_left}
-use Rattle.octant_code.specs.Points.{site_at}
+use Rattle.octant_code.specs.Points.{ArePoints, site_at}
 use Rattle.octant_code.specs.Space.{Site, origin, IsInCube}
 use Rattle.bh_model.specs.Bodies.{IsIn}
 use Rattle.bh_model.specs.Moments.{FitsWords, Matter, add_moment, moment, moment_of_one, no_moment, total}
@@ -155,5 +155,5 @@ pub moment_fits : (m : Matter) (cost : ℕ → ℕ) (bodies : List ℕ) → ((n 
 moment_fits m cost bodies cube light few cheap = part_fits m cost 21 0 bodies cube light few cheap
 
 -- bodies of a list of points have sites of the cube
-pub bodies_in_cube : (sites : List Site) (bodies : List ℕ) → All IsInCube sites → All (λ n. n < length sites) bodies → (n : ℕ) → IsIn bodies n → IsInCube (site_at sites n)
-bodies_in_cube sites bodies cube within n i = cube n origin (member_of_all (λ m. m < length sites) bodies n within i)
+pub bodies_in_cube : (sites : List Site) (bodies : List ℕ) → ArePoints sites → All (λ n. n < length sites) bodies → (n : ℕ) → IsIn bodies n → IsInCube (site_at sites n)
+bodies_in_cube sites bodies rule within n i = rule.in_cube n origin (member_of_all (λ m. m < length sites) bodies n within i)

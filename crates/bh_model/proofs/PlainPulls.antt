@@ -35,12 +35,12 @@ points_apart masses sites n rule within = record {
 }
 
 -- the pull on one of all points is below 2 ^ 80 along each axis
-pub pull_below : (law : PullLaw) (masses : List ℕ) (sites : List Site) (n : ℕ) → ArePoints sites → All IsInCube sites → n < length sites → law.g ≤ 2 ^ 40
+pub pull_below : (law : PullLaw) (masses : List ℕ) (sites : List Site) (n : ℕ) → ArePoints sites → n < length sites → law.g ≤ 2 ^ 40
     → sum_by (λ k. slice_index masses k) (numbers (length sites)) < 2 ^ 40
     → IsSmall (2 ^ 80 - 1) (length sites - 1) (pull law (matter_by masses sites) n (octree (site_at sites) (numbers (length sites))))
-pull_below law masses sites n rule cube within constant light =
+pull_below law masses sites n rule within constant light =
     small_more _ _ _ _ _ (pull_fits law.g (sum_by (λ k. slice_index masses k) (numbers (length sites))) constant light) (omega arith)
-    (pull_among law (matter_by masses sites) sites n rule cube (points_apart masses sites n rule within) within)
+    (pull_among law (matter_by masses sites) sites n rule (points_apart masses sites n rule within) within)
 
 -- pulls of equal parts are equal
 abbrev pull_of_parts : ℤ → ℤ → ℤ → ℕ → Pull
@@ -164,7 +164,6 @@ part_child sites masses level key k bodies part small e p =
     let deeper : suc level ≡ level + 1 = sym (add-one level) in
     let whole : IsPart sites masses (level + 1) (8 * key + k) own = record {
       rule = p.rule;
-      cube = p.cube;
       once = in_octant-once (site_at sites) level k bodies p.once;
       within = octants_within sites level k bodies own (length sites) refl p.within;
       weighed = octants_within sites level k bodies own (length masses) refl p.weighed;
@@ -189,7 +188,7 @@ part_small law sites masses n level key bodies own l p =
     let site : ℕ → Site = site_at sites in
     let tree : Tree = octree_from site (21 - level) level bodies in
     let within : (j : ℕ) → IsIn bodies j → j < length sites = λ j i. member_of_all (λ a. a < length sites) bodies j p.within i in
-    let stands = stands_of_list (length sites) site (21 - level) level key bodies (omega arith) p.once (placed_of_points sites bodies p.rule p.cube p.within) p.under within in
+    let stands = stands_of_list (length sites) site (21 - level) level key bodies (omega arith) p.once (placed_of_points sites bodies p.rule p.within) p.under within in
     let once : total (is_own n) tree ≤ 1 =
     omega (arith, total_within (is_own n) site (21 - level) level bodies, part_few sites masses level key bodies (is_own n) p, count_own n (length sites) own) in
     small_more _ _ _ _ _ (mul-le-mul_left law.g (total_within m.mass site (21 - level) level bodies))
@@ -252,7 +251,7 @@ part_length sites masses level key bodies p =
 pub part_moment : (sites : List Site) (masses : List ℕ) (level key : ℕ) (bodies : List ℕ) → IsPart sites masses level key bodies
     → FitsWords (moment (matter_by masses sites) (λ n. slice_index masses n) (octree_from (site_at sites) (21 - level) level bodies))
 part_moment sites masses level key bodies p =
-    part_fits (matter_by masses sites) (λ n. slice_index masses n) (21 - level) level bodies (bodies_in_cube sites bodies p.cube p.within) p.light
+    part_fits (matter_by masses sites) (λ n. slice_index masses n) (21 - level) level bodies (bodies_in_cube sites bodies p.rule p.within) p.light
     (part_length sites masses level key bodies p) (omega (arith, p.light))
 
 -- a quotient of a sum of products is in the cube
@@ -266,7 +265,7 @@ pub centre_inside : (sites : List Site) (masses : List ℕ) (level key : ℕ) (b
 centre_inside sites masses level key bodies p =
     let m : Matter = matter_by masses sites in
     let tree : Tree = octree_from (site_at sites) (21 - level) level bodies in
-    let cube : (n : ℕ) → IsIn (order tree) n → IsInCube (site_at sites n) = λ n i. bodies_in_cube sites bodies p.cube p.within n (from_list (site_at sites) (21 - level) level bodies n i) in
+    let cube : (n : ℕ) → IsIn (order tree) n → IsInCube (site_at sites n) = λ n i. bodies_in_cube sites bodies p.rule p.within n (from_list (site_at sites) (21 - level) level bodies n i) in
     let mass = ap (λ y. (2 ^ 21 - 1) * y) (total-order m.mass tree) in
     let bound : (place : ℕ → ℕ) → ((n : ℕ) → IsIn (order tree) n → place n ≤ 2 ^ 21 - 1) → total (λ n. m.mass n * place n) tree ≤ (2 ^ 21 - 1) * total m.mass tree =
     λ place h. omega (arith, mass, total-order (λ n. m.mass n * place n) tree, sum_products m.mass place (2 ^ 21 - 1) (order tree) h) in

@@ -133,15 +133,15 @@ pull_small law m most n apart down key (Cell a b c d e f g h) stands once =
     ]
 
 -- the pull on one of the bodies of a whole scene is within g times their mass, and has a term at most for each other body
-pub pull_among : (law : PullLaw) (m : Matter) (sites : List Site) (n : ℕ) → ArePoints sites → All IsInCube sites → StandsApart m (length sites) n → n < length sites
+pub pull_among : (law : PullLaw) (m : Matter) (sites : List Site) (n : ℕ) → ArePoints sites → StandsApart m (length sites) n → n < length sites
     → IsSmall (law.g * sum_by m.mass (numbers (length sites))) (length sites - 1) (pull law m n (octree (site_at sites) (numbers (length sites))))
-pull_among law m sites n rule cube apart within =
+pull_among law m sites n rule apart within =
     let tree : Tree = octree (site_at sites) (numbers (length sites)) in
-    let own = total_of_all (is_own n) sites rule cube ∙ count_own n (length sites) within in
-    let all = total_of_all (λ k. 1) sites rule cube ∙ count_numbers (length sites) in
-    let mass = total_of_all m.mass sites rule cube in
+    let own = total_of_all (is_own n) sites rule ∙ count_own n (length sites) within in
+    let all = total_of_all (λ k. 1) sites rule ∙ count_numbers (length sites) in
+    let mass = total_of_all m.mass sites rule in
     small_more _ _ _ _ _ (omega (arith, ap (λ w. law.g * w) mass)) (omega (arith, total_own_other n tree))
-    (pull_small law m (length sites) n apart 21 1 tree (stands_of_all sites rule cube) (omega arith))
+    (pull_small law m (length sites) n apart 21 1 tree (stands_of_all sites rule) (omega arith))
 
 -- a constant of at most 2 ^ 40 times a mass below 2 ^ 40 is below 2 ^ 80
 pub pull_fits : (g mass : ℕ) → g ≤ 2 ^ 40 → mass < 2 ^ 40 → g * mass ≤ 2 ^ 80 - 1

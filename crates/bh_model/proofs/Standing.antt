@@ -103,14 +103,14 @@ numbers_within n k d h =
     subst P (sym (number_at_place n k d small)) small
 
 -- the numbers of a list of points are bodies with points of their own
-numbers_placed : (sites : List Site) → ArePoints sites → All IsInCube sites → ArePlaced (site_at sites) (numbers (length sites))
-numbers_placed sites rule cube = placed_of_points sites (numbers (length sites)) rule cube (numbers_within (length sites))
+numbers_placed : (sites : List Site) → ArePoints sites → ArePlaced (site_at sites) (numbers (length sites))
+numbers_placed sites rule = placed_of_points sites (numbers (length sites)) rule (numbers_within (length sites))
 
 -- the total over the octree of all points is the sum over their numbers
-pub total_of_all : (q : ℕ → ℕ) (sites : List Site) → ArePoints sites → All IsInCube sites
+pub total_of_all : (q : ℕ → ℕ) (sites : List Site) → ArePoints sites
     → total q (octree (site_at sites) (numbers (length sites))) ≡ sum_by q (numbers (length sites))
-total_of_all q sites rule cube =
-    total_of_list q (site_at sites) 21 0 1 (numbers (length sites)) refl (numbers_once (length sites)) (numbers_placed sites rule cube)
+total_of_all q sites rule =
+    total_of_list q (site_at sites) 21 0 1 (numbers (length sites)) refl (numbers_once (length sites)) (numbers_placed sites rule)
     (under_root (site_at sites) (numbers (length sites)))
 
 -- ---- sums over numbers
@@ -222,7 +222,7 @@ stands_of_list most site (suc below) level key (n ∷ m ∷ rest) sum once place
     (in_octant-placed site level k bodies placed) (in_octant-under site level key k bodies under) (λ a i. within a (in_octant-member site level k bodies a i).0)))
 
 -- the octree of all points stands
-pub stands_of_all : (sites : List Site) → ArePoints sites → All IsInCube sites → Stands (length sites) 21 (octree (site_at sites) (numbers (length sites)))
-stands_of_all sites rule cube =
-    stands_of_list (length sites) (site_at sites) 21 0 1 (numbers (length sites)) refl (numbers_once (length sites)) (numbers_placed sites rule cube)
+pub stands_of_all : (sites : List Site) → ArePoints sites → Stands (length sites) 21 (octree (site_at sites) (numbers (length sites)))
+stands_of_all sites rule =
+    stands_of_list (length sites) (site_at sites) 21 0 1 (numbers (length sites)) refl (numbers_once (length sites)) (numbers_placed sites rule)
     (under_root (site_at sites) (numbers (length sites))) (λ n i. (in_numbers (length sites) n).0 i)

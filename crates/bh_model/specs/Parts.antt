@@ -7,7 +7,6 @@ use Rattle.bh_model.specs.Bodies.{IsIn, NoneTwice}
 -- the bodies are different ones of a list of points with masses, they lie in the cube of the key of the level, and they are light
 pub record IsPart (sites : List Site) (masses : List ℕ) (level key : ℕ) (bodies : List ℕ) : Type 0 where
   pub rule : ArePoints sites
-  pub cube : All IsInCube sites
   pub once : NoneTwice bodies
   pub within : All (λ n. n < length sites) bodies
   pub weighed : All (λ n. n < length masses) bodies

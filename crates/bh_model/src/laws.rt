@@ -27,7 +27,6 @@ pub fn cells_are_where_two_bodies_lie(points: &Points, bodies: &[u32], key: u64)
     requires within { All (λ n. n < length points.now) bodies.now }
     ensures { HasCellAt (octree (site_at points.now) bodies.now) key ↔ HasTwoUnder (site_at points.now) bodies.now key }
 {
-    all_in_cube(points);
     let _read = (points.len(), bodies.len(), key);
 }
 
@@ -38,15 +37,5 @@ pub fn order_has_each_body_once(points: &Points, bodies: &[u32])
     ensures same_bodies { (n : ℕ) → IsIn (order (octree (site_at points.now) bodies.now)) n ↔ IsIn bodies.now n }
     ensures once { NoneTwice (order (octree (site_at points.now) bodies.now)) }
 {
-    all_in_cube(points);
     let _read = (points.len(), bodies.len());
-}
-
-/// Each point of a list is in the cube: what one look at each of them tells.
-pub(crate) fn all_in_cube(points: &Points)
-    ensures { All IsInCube points.now }
-{
-    for n in 0..points.len() {
-        let _point = points.at(n);
-    }
 }

@@ -11,7 +11,6 @@ ghost use Rattle.bh_model.specs.Pulls.{IsSmall, add_pull, is_far, is_whole, no_p
 ghost use Rattle.bh_model.specs.Trees.{Body, octree, octree_from};
 ghost use Rattle.bh_model.specs.Zones.{cost_of, zone, zone_from};
 
-use crate::laws::all_in_cube;
 use crate::moment::Moment;
 use crate::plain::{LEVELS, bodies_in_octant, plain_order};
 use crate::pull::{Law, Pull};
@@ -107,7 +106,7 @@ pub fn plain_moment(
     requires cheap { sum_by (λ n. slice_index costs.now n) bodies.now < 2 ^ 64 }
     ensures { IfOk result (λ m. m ≡ moment (matter_by masses.now points.now) (λ n. slice_index costs.now n) (octree (site_at points.now) bodies.now)) }
 {
-    all_in_cube(points);
+    let _rule = points.len();
     moment_of_part(alloc, points, masses, costs, bodies, 0)
 }
 
@@ -223,7 +222,6 @@ pub fn plain_pull(
     requires own { n < length points.now }
     ensures { IfOk result (λ p. p ≡ pull law.now (matter_by masses.now points.now) n (octree (site_at points.now) bodies.now)) }
 {
-    all_in_cube(points);
     let _read = (points.len(), law.g);
     pull_of_part(alloc, points, masses, law, n, bodies, 0, 1)
 }

@@ -9,7 +9,6 @@ ghost use Rattle.bh_model.specs.Moments.{matter_by};
 ghost use Rattle.bh_model.specs.Pulls.{IsSmall, pull, term};
 ghost use Rattle.bh_model.specs.Trees.{octree};
 
-use crate::laws::all_in_cube;
 use crate::pull::Law;
 use octant_code::{Point, Points};
 
@@ -30,6 +29,5 @@ pub fn a_pull_is_below_the_bound(points: &Points, masses: &[u32], law: &Law, n: 
     requires light { sum_by (λ k. slice_index masses.now k) (numbers (length points.now)) < 2 ^ 40 }
     ensures { IsSmall (2 ^ 80 - 1) (length points.now - 1) (pull law.now (matter_by masses.now points.now) n (octree (site_at points.now) (numbers (length points.now)))) }
 {
-    all_in_cube(points);
     let _read = (points.len(), masses.len(), law.g, n);
 }

@@ -9,7 +9,6 @@ ghost use Rattle.bh_model.specs.Plans.{HasWorkers};
 ghost use Rattle.bh_model.specs.Trees.{octree, order};
 ghost use Rattle.bh_model.specs.Zones.{IsInOneZone, cost_of};
 
-use crate::laws::all_in_cube;
 use octant_code::Points;
 
 /// Each body of a list whose bodies all cost something is in exactly one zone of 1 to 64 workers
@@ -21,7 +20,6 @@ pub fn each_body_is_in_one_zone(points: &Points, bodies: &[u32], costs: &[u32], 
     requires workers { HasWorkers workers }
     ensures { (n : ℕ) → IsIn bodies.now n → IsInOneZone (λ m. slice_index costs.now m) workers (octree (site_at points.now) bodies.now) n }
 {
-    all_in_cube(points);
     let _read = (points.len(), bodies.len(), costs.len(), workers);
 }
 

@@ -26,24 +26,23 @@ use Rattle.force_walk.proofs.Walked.{add_to_none, walked_end}
 -- the bodies of a scene with points in the cube, and the words of their canonical octree
 pub record IsScene (bodies : List Body) (o : Stored) : Type 0 where
   pub rule : AreBodies bodies
-  pub cube : All IsInCube (sites_of bodies)
   pub octree : IsOctreeOf (sites_of bodies) o
 
 abbrev sites_long : (bodies : List Body) → length (sites_of bodies) ≡ length bodies
 sites_long bodies = length-map bodies (λ (b : Body). b.at)
 
 points_of : (bodies : List Body) (o : Stored) → IsScene bodies o → ArePoints (sites_of bodies)
-points_of bodies o scene = let long = sites_long bodies in record { few = omega (arith, scene.rule.few); apart = scene.rule.apart }
+points_of bodies o scene = let long = sites_long bodies in record { few = omega (arith, scene.rule.few); apart = scene.rule.apart; in_cube = scene.rule.in_cube }
 
 -- each cell has a cube to divide and two bodies
 scene_stands : (bodies : List Body) (o : Stored) → IsScene bodies o → Stands (length bodies) 21 (tree_of o)
 scene_stands bodies o scene =
     subst (λ (n : ℕ). Stands n 21 (tree_of o)) (sites_long bodies)
-    (subst (λ (t : Tree). Stands (length (sites_of bodies)) 21 t) (sym scene.octree.tree) (stands_of_all (sites_of bodies) (points_of bodies o scene) scene.cube))
+    (subst (λ (t : Tree). Stands (length (sites_of bodies)) 21 t) (sym scene.octree.tree) (stands_of_all (sites_of bodies) (points_of bodies o scene)))
 
 scene_total : (bodies : List Body) (o : Stored) (q : ℕ → ℕ) → IsScene bodies o → total q (tree_of o) ≡ sum_by q (numbers (length bodies))
 scene_total bodies o q scene =
-    ap (total q) scene.octree.tree ∙ total_of_all q (sites_of bodies) (points_of bodies o scene) scene.cube ∙ ap (λ n. sum_by q (numbers n)) (sites_long bodies)
+    ap (total q) scene.octree.tree ∙ total_of_all q (sites_of bodies) (points_of bodies o scene) ∙ ap (λ n. sum_by q (numbers n)) (sites_long bodies)
 
 scene_count : (bodies : List Body) (o : Stored) → IsScene bodies o → total (λ n. 1) (tree_of o) ≡ length bodies
 scene_count bodies o scene = scene_total bodies o (λ n. 1) scene ∙ count_numbers (length bodies)
@@ -97,7 +96,7 @@ scene_small law bodies o n rule scene within =
     let long : length sites ≡ length bodies = sites_long bodies in
     let mass : sum_by m.mass (numbers (length sites)) ≡ total_mass bodies = ap (λ k. sum_by m.mass (numbers k)) long ∙ places_mass bodies in
     let apart : StandsApart m (length sites) n = subst (λ (k : ℕ). StandsApart m k n) (sym long) (bodies_apart bodies n scene.rule within) in
-    let among = pull_among law m sites n (points_of bodies o scene) scene.cube apart (omega arith) in
+    let among = pull_among law m sites n (points_of bodies o scene) apart (omega arith) in
     let fits = pull_fits law.g (total_mass bodies) rule.g_fits scene.rule.total in
     let here = small_more _ _ (2 ^ 80 - 1) (length bodies - 1) _ (omega (arith, ap (λ w. law.g * w) mass)) (omega arith) among in
     subst (λ (t : Tree). IsPullAmong (length bodies) (pull law m n t)) (sym scene.octree.tree) here

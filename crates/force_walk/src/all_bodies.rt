@@ -40,7 +40,6 @@ pub fn pulls<R>(
     ensures value { IfOk result (λ list. list.items ≡ pulls law.now (matter_of bodies.now) (length bodies.now) (tree_of tree.now)) }
     ensures small { IfOk result (λ list. All (IsPullAmong (length bodies.now)) list.items) }
 {
-    bodies.all_in_cube();
     let nodes = flat_table(alloc, tree, moments, bodies)?;
     let least = least_distances(law);
     let Ok(mut list) = vec![in alloc; no_pull(); bodies.len() as usize] else {

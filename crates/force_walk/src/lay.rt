@@ -1,7 +1,6 @@
 //! The flat table is laid.
 
 ghost use Rattle.std.specs.Prelude.{◌≡◌, ◌≤◌, ◌<◌, ◌+◌, ◌-◌, ◌^◌, ◌∷◌, ◌++◌, [], All, IfOk, OnOk, length, slice_index_or, slice_set};
-ghost use Rattle.octant_code.specs.Space.{IsInCube};
 ghost use Rattle.force_walk.specs.Flat.{IsLaid, body_node, flat, kept_node, no_node};
 ghost use Rattle.mass_moments.specs.Kept.{HaveMatter, matter_of, moment_at};
 ghost use Rattle.octree.specs.Reading.{IsOctreeOf, IsReadAt, tree_at};
@@ -117,7 +116,6 @@ pub fn flat_table(
 ) -> Result<Vec<WalkNode>, OutOfMemory>
     requires octree { IsOctreeOf (sites_of bodies.now) tree.now }
     requires moments { HaveMatter tree.now (matter_of bodies.now) moments.now }
-    requires cube { All IsInCube (sites_of bodies.now) }
     ensures { IfOk result (λ nodes. nodes.items ≡ flat (matter_of bodies.now) 21 1 (tree_of tree.now)) }
 {
     let _rule = (tree.held(), bodies.len());

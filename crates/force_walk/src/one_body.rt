@@ -32,7 +32,6 @@ pub fn pull(tree: &Octree, moments: &Moments, bodies: &Bodies, n: u32, law: &Law
     ensures value { result ≡ pull law.now (matter_of bodies.now) n (tree_of tree.now) }
     ensures small { IsPullAmong (length bodies.now) result }
 {
-    bodies.all_in_cube();
     let _rule = (tree.held(), bodies.len());
     let least = least_distances(law);
     let from = bodies.get(n).at;

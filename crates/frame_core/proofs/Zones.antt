@@ -35,22 +35,22 @@ pub body_within : (bodies : List Body) (o : Stored) (n : ℕ) → IsOctreeOf (si
 body_within bodies o n h b = let less = h.canonical.bodies_in n b in omega (arith, less, sites_count bodies)
 
 -- all bodies are placed in the cube
-placed : (bodies : List Body) → AreBodies bodies → All IsInCube (sites_of bodies) → ArePlaced (site_at (sites_of bodies)) (numbers (length bodies))
-placed bodies rule cube =
-    let points : ArePoints (sites_of bodies) = record { few = omega (arith, sites_count bodies, rule.few); apart = rule.apart } in
+placed : (bodies : List Body) → AreBodies bodies → ArePlaced (site_at (sites_of bodies)) (numbers (length bodies))
+placed bodies rule =
+    let points : ArePoints (sites_of bodies) = record { few = omega (arith, sites_count bodies, rule.few); apart = rule.apart; in_cube = rule.in_cube } in
     let P : ℕ → Type 0 = λ y. y < length (sites_of bodies) in
-    placed_of_points (sites_of bodies) (numbers (length bodies)) points cube
+    placed_of_points (sites_of bodies) (numbers (length bodies)) points
     (λ k d l. subst P (sym (number_at_place (length bodies) k d (omega (arith, length_numbers (length bodies), l)))) (omega (arith, length_numbers (length bodies), l, sites_count bodies)))
 
 -- each body is in the order of the tree
-pub in_tree : (bodies : List Body) (n : ℕ) → AreBodies bodies → All IsInCube (sites_of bodies) → n < length bodies → IsIn (order (tree_of_bodies bodies)) n
-in_tree bodies n rule cube l =
-    (order_members (site_at (sites_of bodies)) (numbers (length bodies)) n (numbers_once (length bodies)) (placed bodies rule cube)).1 ((in_numbers (length bodies) n).1 l)
+pub in_tree : (bodies : List Body) (n : ℕ) → AreBodies bodies → n < length bodies → IsIn (order (tree_of_bodies bodies)) n
+in_tree bodies n rule l =
+    (order_members (site_at (sites_of bodies)) (numbers (length bodies)) n (numbers_once (length bodies)) (placed bodies rule)).1 ((in_numbers (length bodies) n).1 l)
 
 -- and nothing else
-pub from_tree : (bodies : List Body) (n : ℕ) → AreBodies bodies → All IsInCube (sites_of bodies) → IsIn (order (tree_of_bodies bodies)) n → n < length bodies
-from_tree bodies n rule cube i =
-    (in_numbers (length bodies) n).0 ((order_members (site_at (sites_of bodies)) (numbers (length bodies)) n (numbers_once (length bodies)) (placed bodies rule cube)).0 i)
+pub from_tree : (bodies : List Body) (n : ℕ) → AreBodies bodies → IsIn (order (tree_of_bodies bodies)) n → n < length bodies
+from_tree bodies n rule i =
+    (in_numbers (length bodies) n).0 ((order_members (site_at (sites_of bodies)) (numbers (length bodies)) n (numbers_once (length bodies)) (placed bodies rule)).0 i)
 
 -- ---- zones in a list of lists
 
@@ -66,13 +66,13 @@ zone_is its zs cost workers tree w d e l =
     ∙ value_at_place (λ w. zone cost workers w tree) workers w [] (omega (arith, zones_count its zs cost workers tree e))
 
 -- zones have bodies alone
-pub zones_inside : {X : Type 0} (its : X → List ℕ) (zs : List X) (cost : ℕ → ℕ) (workers : ℕ) (bodies : List Body) → AreBodies bodies → All IsInCube (sites_of bodies)
+pub zones_inside : {X : Type 0} (its : X → List ℕ) (zs : List X) (cost : ℕ → ℕ) (workers : ℕ) (bodies : List Body) → AreBodies bodies
     → map its zs ≡ zones cost workers (tree_of_bodies bodies) → All (λ z. All (λ n. n < length bodies) (its z)) zs
-zones_inside its zs cost workers bodies rule cube e w d l k c m =
+zones_inside its zs cost workers bodies rule e w d l k c m =
     let tree : Tree = tree_of_bodies bodies in
     let n : ℕ = get_or (its (get_or zs w d)) k c in
     let there : IsIn (zone cost workers w tree) n = subst (λ (y : List ℕ). IsIn y n) (zone_is its zs cost workers tree w d e l) (in_at (its (get_or zs w d)) k c m) in
-    from_tree bodies n rule cube (zone_from-member cost workers (cost_of cost (order tree)) 0 (order tree) w n there)
+    from_tree bodies n rule (zone_from-member cost workers (cost_of cost (order tree)) 0 (order tree) w n there)
 
 -- what stands at a place of a list
 some_at : {X : Type 0} (xs : List X) (k : ℕ) → k < length xs → (x : X) × (get_or xs k x ≡ x)
@@ -81,13 +81,13 @@ some_at (x ∷ xs) zero l = (x, refl)
 some_at (x ∷ xs) (suc k) l = some_at xs k (omega arith)
 
 -- and each body is in one
-pub zones_cover : {X : Type 0} (its : X → List ℕ) (zs : List X) (cost : ℕ → ℕ) (workers : ℕ) (bodies : List Body) → AreBodies bodies → All IsInCube (sites_of bodies)
+pub zones_cover : {X : Type 0} (its : X → List ℕ) (zs : List X) (cost : ℕ → ℕ) (workers : ℕ) (bodies : List Body) → AreBodies bodies
     → map its zs ≡ zones cost workers (tree_of_bodies bodies) → 1 ≤ workers → ((n : ℕ) → n < length bodies → 1 ≤ cost n)
     → (n : ℕ) → n < length bodies → Any (λ z. Contains (its z) n) zs
-zones_cover its zs cost workers bodies rule cube e some positive n l =
+zones_cover its zs cost workers bodies rule e some positive n l =
     let tree : Tree = tree_of_bodies bodies in
     let o : IsInOneZone cost workers tree n =
-    one_zone cost workers tree n (order_has_none_twice (site_at (sites_of bodies)) (numbers (length bodies))) (in_tree bodies n rule cube l) (positive n l) some in
+    one_zone cost workers tree n (order_has_none_twice (site_at (sites_of bodies)) (numbers (length bodies))) (in_tree bodies n rule l) (positive n l) some in
     let within : o.own < length zs = omega (arith, zones_count its zs cost workers tree e, o.is_worker) in
     let x = some_at zs o.own within in
     let is : its x.0 ≡ zone cost workers o.own tree = ap its (sym x.1) ∙ zone_is its zs cost workers tree o.own x.0 e within in

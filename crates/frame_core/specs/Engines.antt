@@ -52,12 +52,11 @@ refused e = record e { spent = true }
 abbrev pub frame_of : EngineState → FrameFigures
 frame_of e = frame_figures e.plan (cost_at e.costs) e.step e.bodies
 
--- what every engine keeps: a cost from 1 to 65,536 for each body, the points in the cube, the canonical octree of the points where
+-- what every engine keeps: a cost from 1 to 65,536 for each body, the canonical octree of the points where
 -- there is a tree, and where there is a frame a tree, the zones by the costs and the pulls on all bodies
 pub record IsEngine (e : EngineState) (octree : Option Stored) (lists : List (List ℕ)) (found : List Pull) : Type 0 where
   pub one_cost_each : length e.costs ≡ length e.bodies
   pub cost : All IsCost e.costs
-  pub in_cube : All IsInCube (sites_of e.bodies)
   pub tree : IfSome octree (λ t. IsOctreeOf (sites_of e.bodies) t)
   pub frame_tree : IsTrue e.has_frame → IsSome octree
   pub zones_are : IsTrue e.has_frame → lists ≡ zones (cost_at e.costs) e.plan.workers (tree_of_bodies e.bodies)

@@ -63,7 +63,6 @@ impl Engine {
     pub fn open(alloc: Global, plan: Plan, bodies: Bodies) -> Result<Engine, OutOfMemory>
         ensures { IfOk result (λ e. e ≡ opened plan bodies) }
     {
-        bodies.all_in_cube();
         let Ok(costs) = vec![in alloc; 1u32; bodies.len() as usize] else {
             return Err(OutOfMemory);
         };

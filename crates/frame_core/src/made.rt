@@ -5,7 +5,6 @@ ghost use Rattle.bh_model.specs.Zones.{zones};
 ghost use Rattle.force_walk.specs.Walks.{pulls};
 ghost use Rattle.frame_core.specs.Frames.{frame_figures, tree_of_bodies};
 ghost use Rattle.mass_moments.specs.Kept.{IsCost, cost_at, matter_of};
-ghost use Rattle.octant_code.specs.Space.{IsInCube};
 ghost use Rattle.octree.specs.Reading.{IsOctreeOf};
 ghost use Rattle.scene_file.specs.Bodies.{sites_of};
 
@@ -42,7 +41,6 @@ pub fn make<R>(
     requires octree { IsOctreeOf (sites_of bodies.now) tree.now }
     requires one_cost_each { length costs.now ≡ length bodies.now }
     requires costs { All IsCost costs.now }
-    requires in_cube { All IsInCube (sites_of bodies.now) }
     ensures figures { IfOk result (λ m. m.frame ≡ frame_figures plan.now (cost_at costs.now) step bodies.now) }
     ensures zones { IfOk result (λ m. map (λ z. z.items) m.zones.items ≡ zones (cost_at costs.now) plan.now.workers (tree_of_bodies bodies.now)) }
     ensures pulls { IfOk result (λ m. m.pulls.items ≡ pulls plan.now.law (matter_of bodies.now) (length bodies.now) (tree_of_bodies bodies.now)) }

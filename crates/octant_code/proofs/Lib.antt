@@ -1,6 +1,7 @@
 pub mod Keys
 pub mod InCube
+pub mod Apart
 pub mod Roots
 pub mod Distances
 mod Decimals
-mod SeenPoints
+pub mod SeenPoints

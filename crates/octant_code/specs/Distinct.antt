@@ -2,6 +2,7 @@
 use Rattle.std.specs.Prelude.{ℕ, ◌<◌, ◌≤◌, ◌≡◌, List, length, take}
 use Rattle.octant_code.specs.Space.{Site}
 use Rattle.octant_code.specs.Points.{site_at, AreApart}
+use Rattle.octant_code.specs.declared.limits.TheConstants.{MOST_BODIES}
 use Rattle.octant_code.specs.declared.points.Distinct.{Distinct}
 use Rattle.octant_code.specs.declared.points.Distinct.TheVariants.{Yes, TooMany, Same}
 
@@ -15,6 +16,6 @@ pub record AreFirstSame (sites : List Site) (first later : ℕ) : Type 0 where
 
 -- the answer of a test is right
 abbrev pub IsTested : List Site → Distinct → Type 0
-IsTested sites Yes = (length sites ≤ 65536) × AreApart sites
-IsTested sites TooMany = 65536 < length sites
-IsTested sites (Same first later) = (length sites ≤ 65536) × AreFirstSame sites first later
+IsTested sites Yes = (length sites ≤ MOST_BODIES) × AreApart sites
+IsTested sites TooMany = MOST_BODIES < length sites
+IsTested sites (Same first later) = (length sites ≤ MOST_BODIES) × AreFirstSame sites first later

@@ -1,6 +1,7 @@
 -- Points of the cube of side 2 ^ 21, the octants that they lie in, and the keys of cubes.
 use Rattle.std.specs.Prelude.{ℕ, ◌+◌, ◌-◌, ◌*◌, ◌/◌, ◌%◌, ◌^◌, ◌<◌, ◌≤◌, ◌≡◌, ◌==◌, ◌&&◌, Bool, zero, suc}
 use Rattle.std.specs.Int.{abs_diff}
+use Rattle.octant_code.specs.declared.limits.TheConstants.{LEVELS}
 
 -- a point by its coordinates
 pub record Site : Type 0 where
@@ -36,11 +37,11 @@ key_of s (suc level) = 8 * key_of s level + octant_of s level
 
 -- the point lies in the cube of the key
 abbrev pub IsUnder : ℕ → Site → Type 0
-IsUnder key s = (level : ℕ) × (level ≤ 21) × (key ≡ key_of s level)
+IsUnder key s = (level : ℕ) × (level ≤ LEVELS) × (key ≡ key_of s level)
 
 -- a key is that of a cube: at a level l, 0 to 21, the keys are those from 8 ^ l on and below 2 * 8 ^ l
 abbrev pub IsKey : ℕ → Type 0
-IsKey key = (level : ℕ) × (level ≤ 21) × (8 ^ level ≤ key) × (key < 2 * 8 ^ level)
+IsKey key = (level : ℕ) × (level ≤ LEVELS) × (8 ^ level ≤ key) × (key < 2 * 8 ^ level)
 
 -- the square of how far two coordinates are apart
 unfoldable pub squared_gap : ℕ → ℕ → ℕ

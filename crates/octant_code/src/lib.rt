@@ -3,6 +3,7 @@
 #![tactic(auto)]
 
 mod decimal;
+mod limits;
 mod memory;
 mod numbers;
 mod point;
@@ -11,6 +12,7 @@ mod space;
 mod steps;
 
 pub use decimal::{NumberFault, read_decimal};
+pub use limits::{LEVELS, MOST_BODIES, SIDE};
 pub use memory::OutOfMemory;
 pub use numbers::{isqrt, short_isqrt, trunc_div};
 pub use point::Point;

@@ -1,9 +1,7 @@
 //! A point of the cube.
 
+use crate::limits::SIDE;
 use std::marker::Model;
-
-/// How many positions the cube has along each axis.
-const SIDE: u32 = 1 << 21;
 
 /// A point of the cube by its whole-number coordinates, each from 0 to 2^21 - 1.
 ///

@@ -1,15 +1,15 @@
 //! Lists of distinct points.
 
+ghost use Rattle.std.specs.Prelude.{All};
 ghost use Rattle.octant_code.specs.Distinct.{IsTested};
+ghost use Rattle.octant_code.specs.Space.{IsInCube};
 
+use crate::limits::MOST_BODIES;
 use crate::memory::OutOfMemory;
 use crate::point::Point;
 use std::alloc::Global;
 use std::collections::HashMap;
 use std::marker::Model;
-
-/// How many points a list may have.
-const MOST_POINTS: usize = 65_536;
 
 /// What testing a list of points answers.
 #[derive(Clone, Copy, Debug, PartialEq, Eq)]
@@ -27,6 +27,15 @@ pub enum Distinct {
 #[derive(Debug, Drop)]
 pub struct Points {
     list: Vec<Point>,
+}
+
+// Each point of a list lies in the cube: what one look at each of them tells.
+fn all_in_cube(list: &[Point])
+    ensures { All IsInCube list.now }
+{
+    for p in list {
+        let _x = p.x;
+    }
 }
 
 impl Model for Points {
@@ -51,7 +60,7 @@ impl Points {
     pub fn test(alloc: Global, list: &[Point]) -> Result<Distinct, OutOfMemory>
         ensures { IfOk result (IsTested list.now) }
     {
-        if list.len() > MOST_POINTS {
+        if list.len() > MOST_BODIES as usize {
             return Ok(Distinct::TooMany);
         }
         let mut seen: HashMap<Point, u32> = HashMap::new(alloc);
@@ -59,20 +68,18 @@ impl Points {
             if let Some(first) = seen.get(p) {
                 return Ok(Distinct::Same(*first, i as u32));
             }
-            match seen.insert(*p, i as u32) {
-                Ok(_) => {}
-                Err(_) => return Err(OutOfMemory),
-            }
+            seen.insert(*p, i as u32)?;
         }
         Ok(Distinct::Yes)
     }
 
     /// The points of a list, which it takes over.
     pub fn of(list: Vec<Point>) -> Points
-        requires few { length list.items ≤ 65536 }
+        requires few { length list.items ≤ MOST_BODIES }
         requires apart { AreApart list.items }
         ensures { result ≡ list.items }
     {
+        all_in_cube(&list);
         Points { list }
     }
 

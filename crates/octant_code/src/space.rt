@@ -3,16 +3,17 @@
 ghost use Rattle.std.specs.Prelude.{◌≡◌, ◌↔◌, ◌*◌, ◌<◌, ◌≤◌, ◌^◌, IsTrue};
 ghost use Rattle.octant_code.specs.Space.{IsKey, IsUnder, key_of, octant_of, squared_distance};
 
+use crate::limits::LEVELS;
 use crate::point::Point;
 
 /// The octant, 0 to 7, that the point lies in at a level, 0 to 20: 4 for the upper half along x,
 /// 2 along y and 1 along z (Barnes and Hut, Nature 324, 1986; the numbers are this project's own).
 pub fn octant(p: Point, level: u32) -> u32
-    requires { level < 21 }
+    requires { level < LEVELS }
     ensures value { result ≡ octant_of p level }
     ensures small { result < 8 }
 {
-    let shift = 20 - level;
+    let shift = LEVELS - 1 - level;
     let x = (p.x >> shift) % 2;
     let y = (p.y >> shift) % 2;
     let z = (p.z >> shift) % 2;
@@ -22,7 +23,7 @@ pub fn octant(p: Point, level: u32) -> u32
 /// The key of the cube at a level, 0 to 21, that holds the point: 1 for the whole cube, and 8 times
 /// the key of the cube above plus the octant in it for every other.
 pub fn key_at(p: Point, level: u32) -> u64
-    requires { level ≤ 21 }
+    requires { level ≤ LEVELS }
     ensures { result ≡ key_of p level }
 {
     let mut key: u64 = 1;
@@ -38,7 +39,7 @@ pub fn key_has(key: u64, p: Point) -> bool
     ensures { IsTrue result ↔ IsUnder key p }
 {
     let mut here: u64 = 1;
-    for i in 0..21 {
+    for i in 0..LEVELS {
         if here == key {
             return true;
         }

@@ -1,39 +1,23 @@
 -- Lists of bodies that grow by one body at a new point.
-use Rattle.std.proofs.Common.{◌≡◌, ◌≢◌, ◌∙◌, ◌<◌, ◌≤◌, ◌+◌, ◌^◌, ◌&&◌, ℕ, suc, zero, Bool, true, false, List, [], ◌∷◌, ◌++◌, length, Option, Some, None, Result, Ok, Err, cond, nat_eq, refl, sym, arith, inl, inr, length-append, add-zero, zero-add}
+use Rattle.std.proofs.Common.{◌≡◌, ◌≢◌, ◌∙◌, ◌<◌, ◌≤◌, ◌+◌, ◌^◌, ℕ, suc, zero, Bool, true, false, List, [], ◌∷◌, ◌++◌, length, Option, Some, None, Result, Ok, Err, cond, refl, sym, arith, inl, inr, length-append, add-zero, zero-add}
 use Rattle.std.specs.Result.{OnOk, is_ok}
 use Rattle.std.specs.List.{All, position_from}
-use Rattle.std.proofs.lemmas.Bool.{cases_Bool, eqb-true, eq-eqb}
+use Rattle.std.proofs.lemmas.Bool.{cases_Bool}
 use Rattle.std.proofs.lemmas.List.{get_or_append_left, length-map, map-append}
 use Rattle.std.proofs.lemmas.List.Elements.{All-append}
 use Rattle.std.proofs.lemmas.List.Sums.{sum_by-append}
 use Rattle.std.proofs.Math.Seq.{get_or-append_seam}
 use Rattle.std.proofs.Math.Nat.{eq-or-lt_of_le}
-use Rattle.octant_code.proofs.InCube.{site_parts}
+use Rattle.octant_code.proofs.SeenPoints.{same_coordinates_refl, same_coordinates_true}
 use Rattle.octant_code.specs.Points.{AreApart, site_at}
-use Rattle.octant_code.specs.Space.{Site, origin, same_coordinates}
+use Rattle.octant_code.specs.Space.{IsInCube, Site, origin, same_coordinates}
 use Rattle.scene_file.specs.Bodies.{AreBodies, number_at, sites_of, total_mass}
 use Rattle.scene_file.specs.declared.bodies.Body.{Body}
-
--- both of two tests pass
-both : (a b : Bool) → (a && b) ≡ true → (a ≡ true) × (b ≡ true)
-both true b e = (refl, e)
-both false b e = cc
-
--- points that are found to be one are one
-pub same_coordinates-true : (a b : Site) → same_coordinates a b ≡ true → a ≡ b
-same_coordinates-true a b e =
-    let front = both (nat_eq a.x b.x) (nat_eq a.y b.y && nat_eq a.z b.z) e in
-    let halves = both (nat_eq a.y b.y) (nat_eq a.z b.z) front.1 in
-    site_parts a.x a.y a.z b.x b.y b.z (eqb-true a.x b.x front.0) (eqb-true a.y b.y halves.0) (eqb-true a.z b.z halves.1)
-
--- a point is found to be itself
-same_coordinates-refl : (a : Site) → same_coordinates a a ≡ true
-same_coordinates-refl a = rw (eq-eqb a.x a.x refl, eq-eqb a.y a.y refl, eq-eqb a.z a.z refl) refl
 
 -- points that are apart are so in either order
 same_coordinates-swap : (a b : Site) → same_coordinates a b ≡ false → same_coordinates b a ≡ false
 same_coordinates-swap a b e = elim (cases_Bool (same_coordinates b a)) [
-  | inl meet ↦ let here = same_coordinates-true b a meet in let self = same_coordinates-refl a in let other : same_coordinates a b ≡ true = rw here self in cc
+  | inl meet ↦ let here = same_coordinates_true b a meet in let self = same_coordinates_refl a in let other : same_coordinates a b ≡ true = rw here self in cc
   | inr part ↦ part
 ]
 
@@ -58,14 +42,14 @@ number_from-push (b ∷ bs) body q k none =
     let (other, rest) = found_none (same_coordinates body.at b.at) k _ none in
     let more = number_from-push bs body q (k + 1) rest in
     let sum : k + 1 + length bs ≡ k + length (b ∷ bs) = omega arith in
-    let apart : same_coordinates q b.at ≡ true → same_coordinates q body.at ≡ false = λ here. let there = same_coordinates-true q b.at here in rw there (same_coordinates-swap body.at b.at other) in
+    let apart : same_coordinates q b.at ≡ true → same_coordinates q body.at ≡ false = λ here. let there = same_coordinates_true q b.at here in rw there (same_coordinates-swap body.at b.at other) in
     rw (more, sum) (put_behind (same_coordinates q b.at) (same_coordinates q body.at) k (k + length (b ∷ bs)) (position_from (λ (b : Body). same_coordinates q b.at) (k + 1) bs) apart)
 
 -- a body that comes at a new point is the one there
 pub number_at-push : (bodies : List Body) (body : Body) (q : Site) → number_at bodies body.at ≡ None
     → number_at (bodies ++ body ∷ []) q ≡ cond (same_coordinates body.at q) (Some (length bodies)) (number_at bodies q)
 number_at-push bodies body q none = elim (cases_Bool (same_coordinates body.at q)) [
-  | inl meet ↦ let here = same_coordinates-true body.at q meet in let back : same_coordinates q body.at ≡ true = rw here (same_coordinates-refl q) in rw (number_from-push bodies body q 0 none, back, meet, zero-add) refl
+  | inl meet ↦ let here = same_coordinates_true body.at q meet in let back : same_coordinates q body.at ≡ true = rw here (same_coordinates_refl q) in rw (number_from-push bodies body q 0 none, back, meet, zero-add) refl
   | inr part ↦ rw (number_from-push bodies body q 0 none, same_coordinates-swap body.at q part, part) refl
 ]
 
@@ -74,7 +58,7 @@ none_from : (bodies : List Body) (s : Site) (k i : ℕ) → position_from (λ (b
 none_from [] s k i none within at = absurd (omega arith)
 none_from (b ∷ bs) s k zero none within at =
     let (other, rest) = found_none (same_coordinates s b.at) k _ none in
-    let here = same_coordinates-refl s in
+    let here = same_coordinates_refl s in
     let bad : same_coordinates s b.at ≡ true = rw at here in
     cc
 none_from (b ∷ bs) s k (suc i) none within at =
@@ -92,9 +76,9 @@ apart-push sites s apart new i j less within same =
     ]
 
 -- what holds of one holds of each of a list of one
-All-one : (P : Body → Type 0) (body : Body) → P body → All P (body ∷ [])
-All-one P body h zero d within = h
-All-one P body h (suc k) d within = absurd (omega arith)
+All-one : {X : Type 0} (P : X → Type 0) (x : X) → P x → All P (x ∷ [])
+All-one P x h zero d within = h
+All-one P x h (suc k) d within = absurd (omega arith)
 
 -- one more body adds its mass
 pub total_mass-push : (bodies : List Body) (body : Body) → total_mass (bodies ++ body ∷ []) ≡ total_mass bodies + body.mass
@@ -102,8 +86,8 @@ total_mass-push bodies body = rw (sum_by-append (λ (b : Body). b.mass) bodies (
 
 -- bodies with one more that may follow them keep the rule
 pub rule-push : (bodies : List Body) (body : Body) → AreBodies bodies → length bodies < 65536 → 0 < body.mass → total_mass bodies + body.mass < 2 ^ 40 → number_at bodies body.at ≡ None
-    → AreBodies (bodies ++ body ∷ [])
-rule-push bodies body rule place mass small none =
+    → IsInCube body.at → AreBodies (bodies ++ body ∷ [])
+rule-push bodies body rule place mass small none inside =
     let more = length-append bodies (body ∷ []) in
     record {
       few = omega arith;
@@ -111,6 +95,7 @@ rule-push bodies body rule place mass small none =
       total = rw (total_mass-push bodies body) small;
       apart = rw (map-append (λ (b : Body). b.at) bodies (body ∷ [])) (apart-push (sites_of bodies) body.at rule.apart
           (λ i within. none_from bodies body.at 0 i none (rw (length-map bodies (λ (b : Body). b.at)) at within)));
+      in_cube = rw (map-append (λ (b : Body). b.at) bodies (body ∷ [])) (All-append IsInCube (sites_of bodies) (body.at ∷ []) rule.in_cube (All-one IsInCube body.at inside));
     }
 
 -- what holds where an answer is Ok holds of one that is

@@ -27,7 +27,8 @@ use Rattle.scene_file.specs.Bodies.{AreBodies, body_at, nobody, number_at, sites
 use Rattle.scene_file.specs.Scene.{bodies_after, body_of, joined, scene_of}
 use Rattle.scene_file.specs.Text.{body_text, text_of_scene}
 use Rattle.scene_file.specs.declared.bodies.Body.{Body}
-use Rattle.scene_file.proofs.BodyLists.{same_coordinates-true, total_mass-push}
+use Rattle.octant_code.proofs.SeenPoints.{same_coordinates_true}
+use Rattle.scene_file.proofs.BodyLists.{total_mass-push}
 use Rattle.scene_file.proofs.Records.{none_from}
 
 -- the numbers of a body are within the ranges of their fields
@@ -162,7 +163,7 @@ body_back number b h =
 none_at : (bodies : List Body) (s : Site) (k : ℕ) → ((i : ℕ) → i < length bodies → site_at (sites_of bodies) i ≢ s) → position_from (λ (b : Body). same_coordinates s b.at) k bodies ≡ None
 none_at [] s k apart = refl
 none_at (b ∷ bs) s k apart = elim (cases_Bool (same_coordinates s b.at)) [
-  | inl meet ↦ absurd (apart 0 (omega arith) (sym (same_coordinates-true s b.at meet)))
+  | inl meet ↦ absurd (apart 0 (omega arith) (sym (same_coordinates_true s b.at meet)))
   | inr part ↦ rw part (none_at bs s (k + 1) (λ i within. apart (suc i) (omega arith)))
 ]
 

@@ -8,7 +8,9 @@ use Rattle.octant_code.specs.declared.decimal.NumberFault.{NumberFault}
 use Rattle.octant_code.specs.declared.decimal.NumberFault.TheVariants.{NotDigits, TooLarge}
 use Rattle.scene_file.specs.Bodies.{number_at, total_mass}
 use Rattle.scene_file.specs.declared.bodies.Body.{Body}
+use Rattle.octant_code.specs.declared.limits.TheConstants.{MOST_BODIES}
 use Rattle.scene_file.specs.declared.scene.Scene.{Scene}
+use Rattle.scene_file.specs.declared.scene.TheConstants.{MOST_BYTES}
 use Rattle.scene_file.specs.declared.fault.SceneFault.{SceneFault}
 use Rattle.scene_file.specs.declared.fault.SceneFault.TheVariants as fault
 
@@ -70,7 +72,7 @@ placed number bodies body (Some earlier) = Err (fault.Coincident number earlier 
 -- the bodies with that of the record of this number: there is place for it, the total mass stays below 2 ^ 40, and no earlier body is at its point
 abbrev pub joined : ℕ → List Body → Body → Result (List Body) SceneFault
 joined number bodies body =
-    if nat_le 65536 (length bodies) then Err (fault.TooMany number)
+    if nat_le MOST_BODIES (length bodies) then Err (fault.TooMany number)
     else if nat_le (2 ^ 40) (total_mass bodies + body.mass) then Err (fault.MassTotal number)
     else placed number bodies body (number_at bodies body.at)
 
@@ -90,7 +92,7 @@ bodies_after (fields ∷ rows) number bodies = then_with (bodies_after rows (num
 
 -- the bodies of a scene's bytes, or the first fault
 abbrev pub scene_of : List ℕ → Result (List Body) SceneFault
-scene_of bytes = if nat_lt 16777216 (length bytes) then Err fault.TooLong else bodies_after (records_of bytes) 1 []
+scene_of bytes = if nat_lt MOST_BYTES (length bytes) then Err fault.TooLong else bodies_after (records_of bytes) 1 []
 
 -- the fault that was told is the one that was to be told, or it is want of memory
 abbrev pub IsFaultOf : {A : Type 0} → Result A SceneFault → SceneFault → Type 0

@@ -33,7 +33,7 @@ impl Model for Bodies {
 }
 
 impl Bodies {
-    ghost use Rattle.std.specs.Prelude.{◌≡◌, ◌<◌, All, IfOk, length};
+    ghost use Rattle.std.specs.Prelude.{◌≡◌, ◌<◌, IfOk, length};
     ghost use Rattle.octant_code.specs.Space.{IsInCube};
     ghost use Rattle.scene_file.specs.Bodies.{AreBodies, body_at, sites_of};
 
@@ -64,26 +64,13 @@ impl Bodies {
         body
     }
 
-    /// Each body's point lies in the cube: what one look at each of them tells.
-    pub fn all_in_cube(&self)
-        ensures { All IsInCube (sites_of self.now) }
-    {
-        for n in 0..self.len() {
-            let _body = self.get(n);
-        }
-    }
-
     /// The bodies' points, in the order of the bodies' numbers.
     pub fn points(&self, alloc: Global) -> Result<Points, OutOfMemory>
         ensures { IfOk result (λ points. points ≡ sites_of self.now) }
     {
-        let Ok(mut list) = Vec::with_capacity(alloc, self.list.len()) else {
-            return Err(OutOfMemory);
-        };
+        let mut list = Vec::with_capacity(alloc, self.list.len())?;
         for body in &self.list {
-            if list.push(body.at).is_err() {
-                return Err(OutOfMemory);
-            }
+            list.push(body.at)?;
         }
         Ok(Points::of(list))
     }

@@ -1,5 +1,9 @@
 //! Why a scene is refused.
 
+ghost use Rattle.std.specs.Prelude.{◌≡◌};
+ghost use Rattle.scene_file.specs.declared.fault.SceneFault.TheVariants as fault;
+
+use octant_code::OutOfMemory;
 use thiserror::Error;
 
 /// The first fault of a scene's bytes: that of the first record that has one, and within a record the
@@ -35,4 +39,12 @@ pub enum SceneFault {
     /// Memory ran out. It is the one answer that the bytes don't cause.
     #[error("out of memory")]
     OutOfMemory,
+}
+
+impl From<OutOfMemory> for SceneFault {
+    ghost from_gives = { λ _ told. told ≡ fault.OutOfMemory };
+
+    fn from(_none: OutOfMemory) -> SceneFault {
+        SceneFault::OutOfMemory
+    }
 }

@@ -2,13 +2,10 @@
 
 use crate::bodies::{Bodies, Body};
 use crate::fault::SceneFault;
-use octant_code::{OutOfMemory, Point};
+use octant_code::{MOST_BODIES, OutOfMemory, Point};
 use std::alloc::Global;
 use std::collections::HashMap;
 use std::marker::Model;
-
-/// How many bodies a scene may have.
-pub const MOST_BODIES: usize = 65_536;
 
 // The bound below which the total mass stays.
 const MASS_BOUND: u64 = 1 << 40;
@@ -36,6 +33,7 @@ impl Model for Gathering {
 
 impl Gathering {
     ghost use Rattle.std.specs.Prelude.{◌≡◌, [], ◌<◌, ◌+◌, ◌^◌, IfOk, None, length};
+    ghost use Rattle.octant_code.specs.Space.{IsInCube};
     ghost use Rattle.scene_file.specs.Bodies.{number_at, total_mass};
     ghost use Rattle.scene_file.specs.Scene.{Adds, Keeps, joined};
 
@@ -43,25 +41,20 @@ impl Gathering {
     pub fn new(alloc: Global, room: usize) -> Result<Gathering, OutOfMemory>
         ensures { IfOk result (λ gathering. gathering ≡ []) }
     {
-        let Ok(list) = Vec::with_capacity(alloc, room) else {
-            return Err(OutOfMemory);
-        };
-        let Ok(numbers) = HashMap::with_capacity(alloc, room) else {
-            return Err(OutOfMemory);
-        };
         Ok(Gathering {
-            list,
+            list: Vec::with_capacity(alloc, room)?,
             total: 0,
-            numbers,
+            numbers: HashMap::with_capacity(alloc, room)?,
         })
     }
 
     /// Puts the body of a record, whose number is told, behind those of the records before it.
     pub fn join(&mut self, number: u32, body: &Body) -> Result<(), SceneFault>
-        requires { 0 < body.now.mass }
+        requires mass { 0 < body.now.mass }
+        requires inside { IsInCube body.now.at }
         ensures { Adds self.old self.new (joined number self.old body.now) result }
     {
-        if self.list.len() >= MOST_BODIES {
+        if self.list.len() >= MOST_BODIES as usize {
             return Err(SceneFault::TooMany(number));
         }
         let total = self.total + u64::from(body.mass);
@@ -77,8 +70,9 @@ impl Gathering {
 
     // Puts a body behind the others that may stand there. `total` is the mass of all of them with it.
     fn keep(&mut self, total: u64, body: &Body) -> Result<(), SceneFault>
-        requires place { length self.old < 65536 }
+        requires place { length self.old < MOST_BODIES }
         requires mass { 0 < body.now.mass }
+        requires inside { IsInCube body.now.at }
         requires total { total ≡ total_mass self.old + body.now.mass }
         requires small { total < 2 ^ 40 }
         requires free { number_at self.old body.now.at ≡ None }

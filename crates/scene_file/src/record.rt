@@ -2,6 +2,7 @@
 
 ghost use Rattle.std.specs.Prelude.{◌≡◌, ◌<◌, ◌≤◌, IfOk};
 ghost use Rattle.csv.specs.Records.{fields_of};
+ghost use Rattle.octant_code.specs.Space.{IsInCube};
 ghost use Rattle.scene_file.specs.Scene.{Adds, body_at_fields, body_from, body_of, field_number, is_body, is_no_number, with_record};
 
 use crate::bodies::Body;
@@ -53,6 +54,7 @@ fn body_at_fields(
     requires massive { 0 < mass }
     ensures value { result ≡ body_at_fields number mass x y z }
     ensures massive { IfOk result (λ body. 0 < body.mass) }
+    ensures inside { IfOk result (λ body. IsInCube body.at) }
 {
     let Ok(x) = x else {
         return Err(SceneFault::OutOfRange(number, 3));
@@ -85,6 +87,7 @@ fn body_from(
     requires z { IfOk z (λ n. n ≤ 2097151) }
     ensures value { result ≡ body_from number mass x y z }
     ensures massive { IfOk result (λ body. 0 < body.mass) }
+    ensures inside { IfOk result (λ body. IsInCube body.at) }
 {
     if is_no_number(mass) {
         return Err(SceneFault::BadNumber(number, 2));
@@ -108,6 +111,7 @@ fn body_from(
 fn read_body(number: u32, row: &ByteRecord) -> Result<Body, SceneFault>
     ensures value { result ≡ body_of number (fields_of row.now) }
     ensures massive { IfOk result (λ body. 0 < body.mass) }
+    ensures inside { IfOk result (λ body. IsInCube body.at) }
 {
     if !is_body(row) {
         return Err(SceneFault::BadRecord(number));

@@ -5,9 +5,10 @@ ghost use Rattle.scene_file.specs.Scene.{Gives, Reads, bodies_after, records_of,
 
 use crate::bodies::Bodies;
 use crate::fault::SceneFault;
-use crate::gathering::{Gathering, MOST_BODIES};
+use crate::gathering::Gathering;
 use crate::record::add_record;
 use csv::{ByteRecord, ErrorKind, ReaderBuilder};
+use octant_code::MOST_BODIES;
 use std::alloc::Global;
 
 /// A scene that was accepted.
@@ -27,17 +28,15 @@ const LEAST_RECORD: usize = 13;
 
 // The bodies of the records of these bytes, or the first fault. One row serves all records.
 fn read_bodies(alloc: Global, bytes: &[u8]) -> Result<Bodies, SceneFault>
-    requires { length bytes.now ≤ 16777216 }
+    requires { length bytes.now ≤ MOST_BYTES }
     ensures { Gives result (bodies_after (records_of bytes.now) 1 []) }
 {
     let mut reader = ReaderBuilder::new()
         .has_headers(false)
         .flexible(true)
         .from_reader(alloc, bytes);
-    let room = MOST_BODIES.min((bytes.len() + 1) / LEAST_RECORD);
-    let Ok(mut gathering) = Gathering::new(alloc, room) else {
-        return Err(SceneFault::OutOfMemory);
-    };
+    let room = (MOST_BODIES as usize).min((bytes.len() + 1) / LEAST_RECORD);
+    let mut gathering = Gathering::new(alloc, room)?;
     let mut row = ByteRecord::new(alloc);
     for number in 1..u32::MAX {
         match reader.read_byte_record(&mut row) {
@@ -64,8 +63,6 @@ pub fn read_scene(alloc: Global, bytes: &[u8]) -> Result<Scene, SceneFault>
     if bytes.len() > MOST_BYTES {
         return Err(SceneFault::TooLong);
     }
-    match read_bodies(alloc, bytes) {
-        Ok(bodies) => Ok(Scene { bodies }),
-        Err(fault) => Err(fault),
-    }
+    let bodies = read_bodies(alloc, bytes)?;
+    Ok(Scene { bodies })
 }

@@ -10,35 +10,27 @@ use itoa::Buffer;
 use octant_code::OutOfMemory;
 use std::alloc::Global;
 
-// Appends bytes.
-fn push_bytes(text: &mut Vec<u8>, bytes: &[u8]) -> Result<(), OutOfMemory>
-    ensures { OnOk result (text.new.items ≡ text.old.items ++ bytes.now) }
-{
-    match text.extend_from_slice(bytes) {
-        Ok(()) => Ok(()),
-        Err(_) => Err(OutOfMemory),
-    }
-}
-
 // Appends a comma and a number.
 fn push_number(text: &mut Vec<u8>, number: u32) -> Result<(), OutOfMemory>
     ensures { OnOk result (text.new.items ≡ text.old.items ++ (44 ∷ decimal number)) }
 {
     let mut buffer = Buffer::new();
-    push_bytes(text, b",")?;
-    push_bytes(text, buffer.format(number).as_bytes())
+    text.push(b',')?;
+    text.extend_from_slice(buffer.format(number).as_bytes())?;
+    Ok(())
 }
 
 // Appends the record of a body.
 fn push_body(text: &mut Vec<u8>, body: &Body) -> Result<(), OutOfMemory>
     ensures { OnOk result (text.new.items ≡ text.old.items ++ body_text body.now) }
 {
-    push_bytes(text, b"body")?;
+    text.extend_from_slice(b"body")?;
     push_number(text, body.mass)?;
     push_number(text, body.at.x)?;
     push_number(text, body.at.y)?;
     push_number(text, body.at.z)?;
-    push_bytes(text, b"\n")
+    text.push(b'\n')?;
+    Ok(())
 }
 
 /// The text of a scene: the records of its bodies in the order of their numbers, each with its line

@@ -11,5 +11,5 @@ moment_of_part-requires c = record {
   shallow = omega arith;
   fits =
       moment_fits (matter_by c.args.masses.now c.args.points.now) (λ n. get_or c.args.costs.now n 0) c.args.bodies.now
-      (bodies_in_cube c.args.points.now c.args.bodies.now c.all_in_cube.ensures c.requires.within) c.requires.light c.requires.few c.requires.cheap;
+      (bodies_in_cube c.args.points.now c.args.bodies.now c.len-rule.ensures.rule c.requires.within) c.requires.light c.requires.few c.requires.cheap;
 }

@@ -11,7 +11,6 @@ pull_of_part-requires c = record {
   constant = subst (λ (l : PullLaw). l.g ≤ 2 ^ 40) c.law.view_is c.law.invariant.g_fits;
   part = record {
     rule = c.len.ensures.rule;
-    cube = c.all_in_cube.ensures;
     once = c.requires.distinct;
     within = c.requires.within;
     weighed = c.requires.weighed;

@@ -10,6 +10,6 @@ pub returns : goal.returns
 returns c n member =
     let site = site_at c.args.points.now in
     let bodies = c.args.bodies.now in
-    let placed = placed_of_points c.args.points.now bodies c.len.ensures.rule c.all_in_cube.ensures c.requires.within in
+    let placed = placed_of_points c.args.points.now bodies c.len.ensures.rule c.requires.within in
     one_zone (λ m. get_or c.args.costs.now m 0) c.args.workers (octree site bodies) n (order_has_none_twice site bodies)
     ((order_members site bodies n c.requires.distinct placed).1 member) (c.requires.positive n member) c.requires.workers.0

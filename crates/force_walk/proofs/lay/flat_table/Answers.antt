@@ -13,12 +13,12 @@ lay-requires-clause-read c =
 
 pub lay-requires-clause-laid : goal.lay-requires-clause-laid
 lay-requires-clause-laid c =
-    let scene : IsScene c.args.bodies.now c.args.tree.now = record { rule = c.len.ensures.rule; cube = c.requires.cube; octree = c.requires.octree } in
+    let scene : IsScene c.args.bodies.now c.args.tree.now = record { rule = c.len.ensures.rule; octree = c.requires.octree } in
     subst (λ (t : Tree). All IsLaid (flat (matter_of c.args.bodies.now) 21 1 t)) (sym (root_tree c.args.tree.now c.root.result c.root.ensures)) (scene_laid c.args.bodies.now c.args.tree.now scene)
 
 pub lay-requires-clause-few : goal.lay-requires-clause-few
 lay-requires-clause-few c =
-    let scene : IsScene c.args.bodies.now c.args.tree.now = record { rule = c.len.ensures.rule; cube = c.requires.cube; octree = c.requires.octree } in
+    let scene : IsScene c.args.bodies.now c.args.tree.now = record { rule = c.len.ensures.rule; octree = c.requires.octree } in
     omega (
       arith,
       scene_few c.args.bodies.now c.args.tree.now scene,

@@ -16,12 +16,12 @@ pull_below-requires-clause-read c =
 
 pub pull_below-requires-clause-laid : goal.pull_below-requires-clause-laid
 pull_below-requires-clause-laid c =
-    let scene : IsScene c.args.bodies.now c.args.tree.now = record { rule = c.len.ensures.rule; cube = c.all_in_cube.ensures; octree = c.requires.octree } in
+    let scene : IsScene c.args.bodies.now c.args.tree.now = record { rule = c.len.ensures.rule; octree = c.requires.octree } in
     subst (λ (t : Tree). All IsLaid (flat (matter_of c.args.bodies.now) 21 1 t)) (sym (root_tree c.args.tree.now c.root.result c.root.ensures)) (scene_laid c.args.bodies.now c.args.tree.now scene)
 
 pub pull_below-requires-clause-few : goal.pull_below-requires-clause-few
 pull_below-requires-clause-few c =
-    let scene : IsScene c.args.bodies.now c.args.tree.now = record { rule = c.len.ensures.rule; cube = c.all_in_cube.ensures; octree = c.requires.octree } in
+    let scene : IsScene c.args.bodies.now c.args.tree.now = record { rule = c.len.ensures.rule; octree = c.requires.octree } in
     omega (
       arith,
       scene_few c.args.bodies.now c.args.tree.now scene,
@@ -30,7 +30,7 @@ pull_below-requires-clause-few c =
 
 pub returns-clause-small : goal.returns-clause-small
 returns-clause-small c =
-    let scene : IsScene c.args.bodies.now c.args.tree.now = record { rule = c.len.ensures.rule; cube = c.all_in_cube.ensures; octree = c.requires.octree } in
+    let scene : IsScene c.args.bodies.now c.args.tree.now = record { rule = c.len.ensures.rule; octree = c.requires.octree } in
     let value = c.pull_below.ensures.value ∙ ap (λ t. pull_from c.args.law.now (matter_of c.args.bodies.now) c.args.n 21 1 t) (root_tree c.args.tree.now c.root.result c.root.ensures) in
     let P : Pull → Type 0 = λ p. IsPullAmong (length c.args.bodies.now) p in
     subst P (sym value) (scene_small c.args.law.now c.args.bodies.now c.args.tree.now c.args.n c.least_distances-least.ensures.rule scene c.requires.body)

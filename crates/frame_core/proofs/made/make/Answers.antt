@@ -24,7 +24,7 @@ greatest_cost-greatest-requires-clause-inside g c w d l k e m =
     let bodies = c.args.bodies.now in
     let cost = cost_at c.args.costs.now in
     let cut = zones_of (λ z. z.items) c.deref.result.now c.in_ok-cut.cut.items cost c.plan.inside.workers bodies c.args.tree.now c.requires.octree c.deref.ensures.value c.in_ok-cut.ensures in
-    let less = zones_inside (λ z. z.items) c.deref.result.now cost c.plan.inside.workers bodies c.len-count.ensures.rule c.requires.in_cube cut w d l k e m in
+    let less = zones_inside (λ z. z.items) c.deref.result.now cost c.plan.inside.workers bodies c.len-count.ensures.rule cut w d l k e m in
     omega (arith, less, c.requires.one_cost_each)
 
 pub greatest_cost-greatest-requires-clause-fits : goal.greatest_cost-greatest-requires-clause-fits
@@ -40,14 +40,14 @@ pulls-requires-clause-inside g c =
     let bodies = c.args.bodies.now in
     let cost = cost_at c.args.costs.now in
     let cut = zones_of (λ z. z.items) c.deref-2.result.now c.in_ok-cut.cut.items cost c.plan.inside.workers bodies c.args.tree.now c.requires.octree c.deref-2.ensures.value c.in_ok-cut.ensures in
-    zones_inside (λ z. z.items) c.deref-2.result.now cost c.plan.inside.workers bodies c.len-count.ensures.rule c.requires.in_cube cut
+    zones_inside (λ z. z.items) c.deref-2.result.now cost c.plan.inside.workers bodies c.len-count.ensures.rule cut
 
 pub pulls-requires-clause-covered : goal.pulls-requires-clause-covered
 pulls-requires-clause-covered g c =
     let bodies = c.args.bodies.now in
     let cost = cost_at c.args.costs.now in
     let cut = zones_of (λ z. z.items) c.deref-2.result.now c.in_ok-cut.cut.items cost c.plan.inside.workers bodies c.args.tree.now c.requires.octree c.deref-2.ensures.value c.in_ok-cut.ensures in
-    zones_cover (λ z. z.items) c.deref-2.result.now cost c.plan.inside.workers bodies c.len-count.ensures.rule c.requires.in_cube cut c.plan.invariant.0
+    zones_cover (λ z. z.items) c.deref-2.result.now cost c.plan.inside.workers bodies c.len-count.ensures.rule cut c.plan.invariant.0
     (λ n l. let within : n < length c.args.costs.now = omega (arith, c.requires.one_cost_each) in (c.requires.costs n 0 within).positive)
 
 pub sum_up-sums-requires-clause-one_each : goal.sum_up-sums-requires-clause-one_each

@@ -1,6 +1,5 @@
-use Rattle.std.proofs.Common.{◌≡◌, ◌+◌, ◌*◌, ◌^◌, ◌<◌, ◌≤◌, ℕ, arith, sym, ◌∙◌, zero, suc, ap, add-one, refl, below_more}
-use Rattle.octant_code.specs.Space.{Site, key_of, octant_of}
-use Rattle.octant_code.proofs.Keys.{key-zero, key-suc, key-high, key-next-fits, last-level}
+use Rattle.std.proofs.Common.{arith, sym, ◌∙◌, add-one, refl, below_more}
+use Rattle.octant_code.proofs.Keys.{key-zero, key-suc, key-next-fits, last-level}
 use Rattle.octant_code.proofs.space.key_has.Goals as goal
 
 pub loop-i-init : goal.loop-i-init

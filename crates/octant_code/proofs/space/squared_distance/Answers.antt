@@ -1,4 +1,4 @@
-use Rattle.std.proofs.Common.{sym, ap, ◌∙◌, arith}
+use Rattle.std.proofs.Common.{ap, ◌∙◌, arith}
 use Rattle.std.specs.Int.{abs_diff}
 use Rattle.octant_code.specs.Space.{Site}
 use Rattle.octant_code.proofs.Distances.{squared_distance-from, squares_small}

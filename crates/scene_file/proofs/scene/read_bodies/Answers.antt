@@ -15,7 +15,7 @@ loop-number-init c =
     let made = c.from_reader-reader.ensures in
     let headers = c.has_headers.ensures in
     let flexible = c.flexible.ensures in
-    rw c.in-Ok.ensures (
+    rw c.in_ok-gathering.ensures (
       rw (flexible, headers) at made.trim ∙ c.new.ensures.trim,
       inr (inr (rw (flexible, headers) at made.has_headers, made.headers)),
       rw (flexible, headers) at made.config ∙ c.new.ensures.config,
@@ -43,7 +43,7 @@ loop-number-preserved c =
       more.1,
       inv.6 ++ fields ∷ [],
       more.2,
-      accepted_more inv.6 fields c.loop-number.gathering c.add_record.new.gathering c.loop-number.number inv.8 inv.9 c.in-Ok-add_record.ensures,
+      accepted_more inv.6 fields c.loop-number.gathering c.add_record.new.gathering c.loop-number.number inv.8 inv.9 c.in-Ok.ensures,
       rw (length-append, inv.9) refl,
     )
 

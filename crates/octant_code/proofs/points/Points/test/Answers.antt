@@ -12,7 +12,7 @@ returns-in-Some c =
     let here = get_or_read sites c.loop-i.i c.index-list-i.result c.loop-i-test.true c.index-list-i.is origin in
     let get : Site → Option ℕ = λ q. hash.get same_coordinates c.loop-i.seen q in
     let found : get (site_at sites c.loop-i.i) ≡ Some c.in-Some.first.now = ap get (sym here) ∙ sym c.in-Some.ensures.value in
-    (c.if-list-gt-MOST_POINTS.false, seen_again sites get c.loop-i.i c.in-Some.first.now c.loop-i.invariant c.loop-i-test.true found)
+    (c.if-list.false, seen_again sites get c.loop-i.i c.in-Some.first.now c.loop-i.invariant c.loop-i-test.true found)
 
 pub loop-i-preserved : goal.loop-i-preserved
 loop-i-preserved c =
@@ -22,4 +22,4 @@ loop-i-preserved c =
     let new : Site → Option ℕ = λ q. hash.get same_coordinates c.insert.new.self q in
     let none : get (site_at sites c.loop-i.i) ≡ None = ap get (sym here) ∙ sym c.in_default.ensures.value in
     seen_more sites get new (same_coordinates (site_at sites c.loop-i.i)) c.loop-i.i c.loop-i.invariant none (same_coordinates_refl (site_at sites c.loop-i.i)) (same_coordinates_true (site_at sites c.loop-i.i))
-    (λ q. c.in-Ok.ensures.updates.0 q ∙ ap (λ s. cond (same_coordinates s q) (Some c.loop-i.i) (get q)) here)
+    (λ q. c.in_ok-insert.ensures.updates.0 q ∙ ap (λ s. cond (same_coordinates s q) (Some c.loop-i.i) (get q)) here)

@@ -17,7 +17,7 @@ invariant_of-self-2 c =
     let free : number_at bodies body.at ≡ None = rw (← c.self.view_is) at c.requires.free in
     let number : c.len-number.result ≡ length bodies = omega arith in
     rw items (record {
-      rule = rule-push bodies body c.self.invariant.rule place c.requires.mass (rw total at c.requires.small) free;
+      rule = rule-push bodies body c.self.invariant.rule place c.requires.mass (rw total at c.requires.small) free c.requires.inside;
       sum = total ∙ sym (total_mass-push bodies body);
       known = λ q. updates.0 q ∙ rw (c.self.invariant.known q, number) (sym (number_at-push bodies body q free));
     })
