@@ -5,7 +5,8 @@ use Rattle.octant_code.specs.Points.{site_at, ArePoints}
 use Rattle.octant_code.specs.Space.{origin, Site, IsInCube, octant_of, key_of}
 use Rattle.octant_code.proofs.Keys.{key-zero, key-suc, octant-small, same_level, same_parent, same_child}
 use Rattle.octant_code.proofs.InCube.{same_site}
-use Rattle.bh_model.specs.Bodies.{IsIn, NoneTwice, HasTwoUnder}
+use Rattle.bh_model.specs.Bodies.{IsIn, NoneTwice, HasMoreUnder}
+use Rattle.bh_model.proofs.MoreThan.{more_of_two, two_of_more}
 use Rattle.bh_model.specs.Trees.{in_octant, octree_from, octree, cell_keys_from, HasCellAt}
 use Rattle.bh_model.proofs.Lists.{filter-keeps, filter-member, none_twice-filter, joined, in_joined, joined_in}
 use Rattle.bh_model.proofs.Trees.{octree-none, octree-one, octree-deep, octree-many, keys-empty, keys-body, keys-cell}
@@ -185,23 +186,16 @@ cell_where_two site (suc below) level key (n ∷ m ∷ rest) q sum placed under 
 pub under_root : (site : ℕ → Site) (bodies : List ℕ) → LieUnder site 0 1 bodies
 under_root site bodies n i = key-zero (site n)
 
--- the canonical octree has a cell at a key exactly where two bodies of the list lie under the key
-pub cell_at : (site : ℕ → Site) (bodies : List ℕ) (key : ℕ) → NoneTwice bodies → ArePlaced site bodies → HasCellAt (octree site bodies) key ↔ HasTwoUnder site bodies key
+-- the canonical octree has a cell at a key exactly where more bodies of the list lie under the key than a leaf holds
+pub cell_at : (site : ℕ → Site) (bodies : List ℕ) (key : ℕ) → NoneTwice bodies → ArePlaced site bodies → HasCellAt (octree site bodies) key ↔ HasMoreUnder site bodies key
 cell_at site bodies key once placed = (
   (λ i.
       let t = two_where_cell site 21 0 1 bodies key refl once (under_root site bodies) i in
-      record {
-        one = t.one;
-        other = t.other;
-        one_in = t.one_in;
-        other_in = t.other_in;
-        differ = t.differ;
-        one_under = (t.depth, t.deep, t.one_key);
-        other_under = (t.depth, t.deep, t.other_key);
-      }),
-  (λ t.
-      let u = t.one_under in
-      let v = t.other_under in
+      more_of_two t.one t.other (t.one_in, (t.depth, t.deep, t.one_key)) (t.other_in, (t.depth, t.deep, t.other_key)) t.differ),
+  (λ more.
+      let t = two_of_more more in
+      let u = t.one_is.1 in
+      let v = t.other_is.1 in
       let same : v.0 ≡ u.0 = same_level (site t.other) (site t.one) v.0 u.0 (sym v.2 ∙ u.2) in
       cell_where_two site 21 0 1 bodies key refl placed (under_root site bodies) (record {
         depth = u.0;
@@ -209,8 +203,8 @@ cell_at site bodies key once placed = (
         deep = u.1;
         one = t.one;
         other = t.other;
-        one_in = t.one_in;
-        other_in = t.other_in;
+        one_in = t.one_is.0;
+        other_in = t.other_is.0;
         differ = t.differ;
         one_key = u.2;
         other_key = v.2 ∙ ap (key_of (site t.other)) same;

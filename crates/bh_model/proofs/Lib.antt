@@ -1,5 +1,6 @@
 pub mod Equal
 pub mod Lists
+pub mod MoreThan
 pub mod Trees
 pub mod Same
 pub mod Cells

@@ -1,5 +1,5 @@
 -- Lists of bodies. A body is a number, and a function gives the point of each.
-use Rattle.std.specs.Prelude.{ℕ, ◌≡◌, ◌≢◌, ◌⊎◌, List, [], ◌∷◌, ◌++◌, zero, suc}
+use Rattle.std.specs.Prelude.{ℕ, ◌≡◌, ◌⊎◌, List, [], ◌∷◌, ◌++◌, length, zero, suc}
 use Rattle.octant_code.specs.Space.{Site, IsUnder}
 
 -- the body is a member of the list
@@ -17,12 +17,17 @@ unfoldable pub numbers : ℕ → List ℕ
 numbers zero = []
 numbers (suc n) = numbers n ++ (n ∷ [])
 
--- at least two bodies of the list lie under the key
-pub record HasTwoUnder (site : ℕ → Site) (bodies : List ℕ) (key : ℕ) : Type 0 where
-  pub one : ℕ
-  pub other : ℕ
-  pub one_in : IsIn bodies one
-  pub other_in : IsIn bodies other
-  pub differ : one ≢ other
-  pub one_under : IsUnder key (site one)
-  pub other_under : IsUnder key (site other)
+-- how many bodies a leaf holds
+abbrev pub leaf_size : ℕ
+leaf_size = 1
+
+-- Of more numbers than a size it is so: of each number of a list that has one number more than the size says, none twice.
+pub record HasMoreThan (size : ℕ) (IsIt : ℕ → Type 0) : Type 0 where
+  pub them : List ℕ
+  pub count : length them ≡ suc size
+  pub once : NoneTwice them
+  pub each : (n : ℕ) → IsIn them n → IsIt n
+
+-- more bodies of the list lie under the key than a leaf holds
+abbrev pub HasMoreUnder : (ℕ → Site) → List ℕ → ℕ → Type 0
+HasMoreUnder site bodies key = HasMoreThan leaf_size (λ n. IsIn bodies n × IsUnder key (site n))

@@ -4,7 +4,7 @@
 ghost use Rattle.std.specs.Prelude.{◌≡◌, ◌↔◌, ◌<◌, ℕ, All, length};
 ghost use Rattle.octant_code.specs.Space.{IsInCube};
 ghost use Rattle.octant_code.specs.Points.{site_at};
-ghost use Rattle.bh_model.specs.Bodies.{IsIn, NoneTwice, HasTwoUnder};
+ghost use Rattle.bh_model.specs.Bodies.{IsIn, NoneTwice, HasMoreUnder};
 ghost use Rattle.bh_model.specs.Trees.{octree, order, HasCellAt};
 
 use octant_code::Points;
@@ -20,12 +20,12 @@ pub fn one_tree_for_every_order(points: &Points, one: &[u32], other: &[u32])
     let _read = (points.len(), one.len(), other.len());
 }
 
-/// The canonical octree has a cell at a key exactly where at least two bodies of the list lie under
-/// the key.
+/// The canonical octree has a cell at a key exactly where more bodies of the list lie under the key
+/// than a leaf holds, which is one.
 pub fn cells_are_where_two_bodies_lie(points: &Points, bodies: &[u32], key: u64)
     requires distinct { NoneTwice bodies.now }
     requires within { All (λ n. n < length points.now) bodies.now }
-    ensures { HasCellAt (octree (site_at points.now) bodies.now) key ↔ HasTwoUnder (site_at points.now) bodies.now key }
+    ensures { HasCellAt (octree (site_at points.now) bodies.now) key ↔ HasMoreUnder (site_at points.now) bodies.now key }
 {
     let _read = (points.len(), bodies.len(), key);
 }

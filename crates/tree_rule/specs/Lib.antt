@@ -1,4 +1,5 @@
 pub mod Words
+pub mod Locks
 pub mod Flat
 pub mod Sound
 pub mod Standing

@@ -1,5 +1,5 @@
--- What a word names, as it is read, and the place of a lock.
-use Rattle.std.specs.Prelude.{ℕ, ◌+◌, ◌*◌, ◌≡◌}
+-- What a word names, as it is read.
+use Rattle.std.specs.Prelude.{ℕ, ◌≡◌}
 use Rattle.tree_rule.specs.Words.{body_word, cell_word}
 use Rattle.tree_rule.specs.declared.words.Named.{Named}
 use Rattle.tree_rule.specs.declared.words.Named.TheVariants.{Nothing, Body, Cell}
@@ -9,7 +9,3 @@ abbrev pub IsNamed : ℕ → Named → Type 0
 IsNamed w Nothing = w ≡ 0
 IsNamed w (Body n) = w ≡ body_word n
 IsNamed w (Cell c) = w ≡ cell_word c
-
--- the place of a cell's lock
-abbrev pub lock_place : ℕ → ℕ
-lock_place c = 12 + 10 * c

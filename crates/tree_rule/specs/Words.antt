@@ -1,7 +1,8 @@
 -- The words of an octree: where they stand, what each names, and the tree that they stand for.
--- Word 0 is the root's. Cell c has the ten words from 3 + 10c on: its children's, its key and its lock.
+-- Word 0 is the root's, and the cells' words stand behind the first three: of each its eight children's, its key and its lock.
 use Rattle.std.specs.Prelude.{ℕ, ◌+◌, ◌-◌, ◌*◌, ◌/◌, ◌%◌, ◌<◌, ◌≡◌, zero, suc, cond, eqb, List, [], ◌∷◌, ◌++◌, slice_index}
 use Rattle.bh_model.specs.Trees.{Tree, Empty, Body, cell_of}
+use Rattle.tree_rule.specs.declared.words.TheConstants.{CELL_WORDS, FIRST_PLACE, KEY_PLACE, LOCK_PLACE}
 
 -- the word at a place of a list
 abbrev pub at_of : List ℕ → ℕ → ℕ
@@ -9,11 +10,15 @@ at_of words i = slice_index words i
 
 -- the place of the word of a cell's child
 abbrev pub child_place : ℕ → ℕ → ℕ
-child_place c k = 3 + 10 * c + k
+child_place c k = FIRST_PLACE + CELL_WORDS * c + k
 
 -- the place of a cell's key
 abbrev pub key_place : ℕ → ℕ
-key_place c = 11 + 10 * c
+key_place c = KEY_PLACE + CELL_WORDS * c
+
+-- the place of a cell's lock
+abbrev pub lock_place : ℕ → ℕ
+lock_place c = LOCK_PLACE + CELL_WORDS * c
 
 -- the word that names a body
 abbrev pub body_word : ℕ → ℕ

@@ -15,5 +15,6 @@ pub use laws::{
 pub use notes::{BodyNote, CellNote, notes_stay};
 pub use stands::words_stand;
 pub use words::{
-    Named, named_by, place_of_child, place_of_key, place_of_lock, word_of_body, word_of_cell,
+    CELL_WORDS, CELLS_OF_ONE, FIRST_PLACE, KEY_PLACE, LOCK_PLACE, MOST_CELLS, Named, named_by,
+    place_of_child, place_of_key, place_of_lock, word_of_body, word_of_cell,
 };

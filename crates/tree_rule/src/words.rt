@@ -1,8 +1,26 @@
 //! The words of an octree: where each stands, what it says, and what it names.
 
 ghost use Rattle.std.specs.Prelude.{◌≡◌, ◌<◌, ◌^◌, ◌*◌};
-ghost use Rattle.tree_rule.specs.Words.{body_word, cell_word, child_place, key_place};
-ghost use Rattle.tree_rule.specs.Naming.{IsNamed, lock_place};
+ghost use Rattle.tree_rule.specs.Words.{body_word, cell_word, child_place, key_place, lock_place};
+ghost use Rattle.tree_rule.specs.Naming.{IsNamed};
+
+/// The most cells that an octree may hold: 21 for each of 65,536 bodies.
+pub const MOST_CELLS: u32 = 1_376_256;
+
+/// The most cells that one more body may take, one of each level that cells have.
+pub const CELLS_OF_ONE: u32 = 21;
+
+/// The place of the first cell's words. The root word stands before them at place 0.
+pub const FIRST_PLACE: usize = 3;
+
+/// How many words a cell has: those of its eight children, its key and its lock.
+pub const CELL_WORDS: usize = 10;
+
+/// The place of the first cell's key, behind the words of its children.
+pub const KEY_PLACE: usize = FIRST_PLACE + 8;
+
+/// The place of the first cell's lock, behind its key.
+pub const LOCK_PLACE: usize = KEY_PLACE + 1;
 
 /// What a word names: nothing, a body, or a cell.
 #[derive(Clone, Copy, Debug, PartialEq, Eq)]
@@ -32,7 +50,7 @@ pub fn named_by(word: u64) -> Named
 pub fn place_of_child(cell: u32, k: u32) -> usize
     ensures { result ≡ child_place cell k }
 {
-    3 + 10 * cell as usize + k as usize
+    FIRST_PLACE + CELL_WORDS * cell as usize + k as usize
 }
 
 /// The place of a cell's key.
@@ -40,7 +58,7 @@ pub fn place_of_child(cell: u32, k: u32) -> usize
 pub fn place_of_key(cell: u32) -> usize
     ensures { result ≡ key_place cell }
 {
-    11 + 10 * cell as usize
+    KEY_PLACE + CELL_WORDS * cell as usize
 }
 
 /// The place of a cell's lock.
@@ -48,7 +66,7 @@ pub fn place_of_key(cell: u32) -> usize
 pub fn place_of_lock(cell: u32) -> usize
     ensures { result ≡ lock_place cell }
 {
-    12 + 10 * cell as usize
+    LOCK_PLACE + CELL_WORDS * cell as usize
 }
 
 /// The word that names a body.
