@@ -1,6 +1,7 @@
 pub mod Equal
 pub mod Lists
 pub mod Trees
+pub mod Folds
 pub mod Same
 pub mod Cells
 pub mod Orders
