@@ -2,6 +2,7 @@ pub mod Equal
 pub mod Lists
 pub mod MoreThan
 pub mod Trees
+pub mod Folds
 pub mod Same
 pub mod Cells
 pub mod Orders

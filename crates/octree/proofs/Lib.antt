@@ -11,4 +11,4 @@ mod WholeWords
 mod Builds
 pub mod Reading
 pub mod Subtrees
-pub mod Folds
+pub mod Laws

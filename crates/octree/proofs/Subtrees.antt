@@ -3,19 +3,19 @@ use Rattle.std.proofs.Common.{ℕ, zero, suc, ◌+◌, ◌-◌, ◌*◌, ◌/◌
 use Rattle.std.proofs.Math.Nat.{pow-suc}
 use Rattle.std.proofs.lemmas.Bool.{cases_lt}
 use Rattle.octant_code.proofs.Keys.{pow8-mono}
-use Rattle.bh_model.proofs.Totals.{each_of_eight}
+use Rattle.bh_model.proofs.Folds.{height_falls}
 use Rattle.bh_model.proofs.Lists.{in_joined, joined_in}
 use Rattle.bh_model.proofs.Trees.{cell_of-same, order-body, order-cell, order-empty}
 use Rattle.bh_model.specs.Bodies.{IsIn}
 use Rattle.octree.proofs.Texts.{tree-zero}
-use Rattle.bh_model.specs.Trees.{order, Tree, cell_of}
+use Rattle.bh_model.specs.Trees.{Tree, cell_of, height, order}
 use Rattle.tree_rule.proofs.Canonical.{ACell, NoBody, OneBody, WordIs, tree-body, tree-cell, tree-empty, word_is}
 use Rattle.tree_rule.proofs.Count.{Deeper, IsKeyBelow, Same, child_in_child, comparable}
 use Rattle.tree_rule.proofs.Sound.{forget}
 use Rattle.tree_rule.specs.Sound.{BelowAs, HereAs, IsReachedAs}
 use Rattle.tree_rule.specs.Words.{Below, HasBody, HasCell, Here, IsReached, at_of, body_word, cell_word, child_place, tree_from}
 use Rattle.octree.specs.Stored.{Stored, IsStored, root_word, tree_of}
-use Rattle.octree.specs.Spot.{IsCellUnder, IsSpot, IsUnderChild, Spot, height, cell_at, child_under, tree_of_word, tree_under}
+use Rattle.octree.specs.Spot.{IsCellUnder, IsSpot, IsUnderChild, Spot, cell_at, child_under, tree_of_word, tree_under}
 use Rattle.octree.specs.Subtree.{HasParts, IsBodyAt, IsCellAt, IsChildOf, IsNothingAt}
 use Rattle.octree.proofs.Reading.{base_positive, level_left, tree_stays}
 use Rattle.octree.proofs.ReadWords.{word_small}
@@ -36,11 +36,6 @@ height_left o (suc below) key w stored (ACell c e) read s low =
     (omega (arith, low, ap (λ l. 8 ^ l) level, pow-suc 8 (22 - suc below))) in
     rw (e, tree-cell at below c)
     (omega (arith, kid 0 (omega arith), kid 1 (omega arith), kid 2 (omega arith), kid 3 (omega arith), kid 4 (omega arith), kid 5 (omega arith), kid 6 (omega arith), kid 7 (omega arith)))
-
--- the children of a cell are less high
-height_falls : (f : ℕ → Tree) (k : ℕ) → k < 8 → height (f k) < height (cell_of f)
-unfolding height
-height_falls f k small = each_of_eight (λ j. height (f j) < height (cell_of f)) (omega arith) (omega arith) (omega arith) (omega arith) (omega arith) (omega arith) (omega arith) (omega arith) k small
 
 -- a spot by its parts
 abbrev pub inside_spot : Stored → ℕ → Spot

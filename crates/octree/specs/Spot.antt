@@ -1,6 +1,7 @@
 -- A word that is read on the way down from the root of an octree, and the tree below it.
-use Rattle.std.specs.Prelude.{max, ◌+◌, ℕ, ◌-◌, ◌/◌, ◌^◌, ◌≤◌}
-use Rattle.bh_model.specs.Trees.{Tree, Empty, Body, Cell}
+use Rattle.std.specs.Prelude.{ℕ, ◌-◌, ◌/◌, ◌^◌, ◌≤◌}
+use Rattle.bh_model.specs.Trees.{Tree}
+pub use Rattle.bh_model.specs.Trees.{height}
 use Rattle.tree_rule.specs.Words.{IsReached, at_of, cell_word, child_place, tree_from}
 use Rattle.tree_rule.specs.Sound.{IsReachedAs}
 use Rattle.octree.specs.Stored.{Stored, IsStored, root_word}
@@ -18,12 +19,6 @@ pub record IsSpot (s : Spot) : Type 0 where
   pub read : IsReachedAs (at_of s.octree.words) (root_word s.octree) s.octree.base key s.word
   pub shallow : level ≤ 21
   pub low : 8 ^ level ≤ key
-
--- how many cells stand one inside the other in a tree
-unfoldable pub height : Tree → ℕ
-height Empty = 0
-height (Body n) = 0
-height (Cell a b c d e f g h) = 1 + max (height a) (max (height b) (max (height c) (max (height d) (max (height e) (max (height f) (max (height g) (height h)))))))
 
 -- the tree below a word
 abbrev pub tree_of_word : Stored → ℕ → Tree

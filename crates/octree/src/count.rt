@@ -6,7 +6,7 @@ ghost use Rattle.octree.specs.Spot.{tree_under};
 
 use crate::subtree::{Subtree, Top};
 
-#[tactic(auto, using(crate::proofs::Folds::count_steps))]
+#[tactic(auto, using(crate::proofs::Laws::child_height, bh_model::proofs::Folds::count_steps))]
 /// Adds the number of a subtree's cells to a count.
 pub fn count_cells(at: &Subtree, so_far: u32) -> u32
     requires { so_far + cell_count (tree_under at.now) ≤ 1376256 }

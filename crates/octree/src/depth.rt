@@ -2,11 +2,12 @@
 
 ghost use Rattle.std.specs.Prelude.{◌≡◌, ◌<◌, ◌+◌, ◌^◌};
 ghost use Rattle.bh_model.specs.Trees.{body_levels_from, greatest};
-ghost use Rattle.octree.specs.Spot.{height, tree_under};
+ghost use Rattle.octree.specs.Spot.{tree_under};
+ghost use Rattle.bh_model.specs.Trees.{height};
 
 use crate::subtree::{Subtree, Top};
 
-#[tactic(auto, using(crate::proofs::Folds::depth_steps))]
+#[tactic(auto, using(crate::proofs::Laws::child_height, bh_model::proofs::Folds::depth_steps))]
 /// The greatest level of a word that names a body in a subtree whose own word is of a level; 0 where
 /// there is none.
 pub fn deepest_body(at: &Subtree, level: u32) -> u32

@@ -61,7 +61,8 @@ impl Octree {
     ghost use Rattle.octree.specs.Node.{IsNodeOf};
     ghost use Rattle.octree.specs.Stored.{AreOctreeWords, IsCanonical, IsInserted, IsRoomier, IsStored, all_used, cells_of, full_tree, root_word, spare_of, tree_of};
     ghost use Rattle.octree.specs.Reading.{IsOctreeOf};
-    ghost use Rattle.octree.specs.Spot.{IsCellUnder, height, tree_under};
+    ghost use Rattle.octree.specs.Spot.{IsCellUnder, tree_under};
+    ghost use Rattle.bh_model.specs.Trees.{height};
 
     /// The empty tree of the whole cube, with spare cells: at most 1,376,256.
     pub fn empty(alloc: Global, cells: u32) -> Result<Octree, OutOfMemory>

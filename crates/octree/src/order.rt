@@ -7,7 +7,7 @@ ghost use Rattle.octree.specs.Spot.{tree_under};
 use crate::subtree::{Subtree, Top};
 use octant_code::OutOfMemory;
 
-#[tactic(auto, using(crate::proofs::Folds::order_steps))]
+#[tactic(auto, using(crate::proofs::Laws::child_height, bh_model::proofs::Folds::order_steps))]
 /// Appends the bodies of a subtree.
 pub fn push_order(at: &Subtree, bodies: &mut Vec<u32>) -> Result<(), OutOfMemory>
     ensures { OnOk result (bodies.new.items ≡ bodies.old.items ++ order (tree_under at.now)) }

@@ -24,7 +24,7 @@ fn put_body<K: Sink>(n: u32, buffer: &mut TextBuffer, sink: &mut K) -> Result<()
     }
 }
 
-#[tactic(auto, using(crate::proofs::Subtrees::child_height))]
+#[tactic(auto, using(crate::proofs::Laws::child_height))]
 /// Puts the text of a subtree.
 pub fn put_tree<K: Sink>(at: Subtree, buffer: &mut TextBuffer, sink: &mut K) -> Result<(), Failed>
     ensures text { Puts (K.written sink.old) (K.written sink.new) buffer.old buffer.new (text (tree_under at.entry)) result }

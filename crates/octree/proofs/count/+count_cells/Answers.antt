@@ -1,5 +1,5 @@
 use Rattle.std.proofs.Common.{◌≡◌, ap, arith}
-use Rattle.octree.proofs.Folds.{counts, counts_all, counts_few, counts_next}
+use Rattle.bh_model.proofs.Folds.{counts, counts_all, counts_few, counts_next}
 use Rattle.octree.proofs.Subtrees.{child_height}
 use Rattle.octree.specs.Spot.{child_under, tree_under}
 use Rattle.octree.proofs.count.+count_cells.Goals as goal

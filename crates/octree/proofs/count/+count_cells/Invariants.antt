@@ -1,6 +1,7 @@
 use Rattle.std.proofs.Common.{◌≡◌, ◌+◌}
-use Rattle.octree.proofs.Folds.{counts}
-use Rattle.octree.specs.Spot.{child_under, height, tree_under}
+use Rattle.bh_model.proofs.Folds.{counts}
+use Rattle.octree.specs.Spot.{child_under, tree_under}
+use Rattle.bh_model.specs.Trees.{height}
 use Rattle.octree.proofs.count.+count_cells.Given as goal
 
 abbrev pub decreases-count_cells : goal.decreases-count_cells

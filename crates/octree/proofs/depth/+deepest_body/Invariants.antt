@@ -1,6 +1,7 @@
 use Rattle.std.proofs.Common.{◌≡◌, ◌+◌}
-use Rattle.octree.proofs.Folds.{deepest_upto}
-use Rattle.octree.specs.Spot.{child_under, height, tree_under}
+use Rattle.bh_model.proofs.Folds.{deepest_upto}
+use Rattle.octree.specs.Spot.{child_under, tree_under}
+use Rattle.bh_model.specs.Trees.{height}
 use Rattle.octree.proofs.depth.+deepest_body.Given as goal
 
 abbrev pub decreases-deepest_body : goal.decreases-deepest_body

@@ -1,5 +1,5 @@
 use Rattle.std.proofs.Common.{arith}
-use Rattle.octree.proofs.Folds.{order_one, orders_all}
+use Rattle.bh_model.proofs.Folds.{order_one, orders_all}
 use Rattle.octree.specs.Spot.{child_under, tree_under}
 use Rattle.octree.proofs.order.+push_order.Goals as goal
 

@@ -1,6 +1,7 @@
 use Rattle.std.proofs.Common.{◌≡◌, ◌++◌}
-use Rattle.octree.proofs.Folds.{orders}
-use Rattle.octree.specs.Spot.{child_under, height, tree_under}
+use Rattle.bh_model.proofs.Folds.{orders}
+use Rattle.octree.specs.Spot.{child_under, tree_under}
+use Rattle.bh_model.specs.Trees.{height}
 use Rattle.octree.proofs.order.+push_order.Given as goal
 
 abbrev pub decreases-push_order : goal.decreases-push_order

@@ -2,7 +2,8 @@ use Rattle.std.proofs.Common.{◌≤◌, ◌∷◌}
 use Rattle.bh_outside.specs.Text.{PutsAll}
 use Rattle.bh_model.proofs.Lists.{joined}
 use Rattle.bh_model.specs.Trees.{text}
-use Rattle.octree.specs.Spot.{child_under, height, tree_under}
+use Rattle.octree.specs.Spot.{child_under, tree_under}
+use Rattle.bh_model.specs.Trees.{height}
 use Rattle.octree.proofs.text.+put_tree.Given as goal
 
 abbrev pub decreases-put_tree : goal.decreases-put_tree

@@ -1,6 +1,7 @@
 use Rattle.std.proofs.Common.{ℕ, ◌<◌, ◌≤◌, ◌≡◌, arith, length, subst, sym}
 use Rattle.std.proofs.lemmas.List.{get_or_read}
-use Rattle.octree.specs.Spot.{IsCellUnder, IsSpot, height, tree_under}
+use Rattle.octree.specs.Spot.{IsCellUnder, IsSpot, tree_under}
+use Rattle.bh_model.specs.Trees.{height}
 use Rattle.octree.specs.Stored.{Stored, tree_of}
 use Rattle.octree.proofs.Subtrees.{inside_spot, root_cells, root_spot, root_under, spot_height}
 use Rattle.tree_rule.specs.Words.{HasCell, at_of}

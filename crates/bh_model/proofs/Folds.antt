@@ -1,11 +1,33 @@
--- The order, the cells and the depth of a tree, gathered child by child.
+-- The height, the order, the cells and the depth of a tree, gathered child by child.
 use Rattle.std.proofs.Common.{ℕ, ◌+◌, ◌*◌, ◌<◌, ◌≤◌, ◌≡◌, zero, suc, max, refl, sym, ◌∙◌, ap, arith, List, [], ◌∷◌, ◌++◌, length, length-append, add-one, append-nil, append_assoc}
 use Rattle.std.proofs.Math.Nat.{max-zero}
-use Rattle.octree.proofs.Subtrees.{child_height}
 use Rattle.bh_model.proofs.Lists.{joined}
 use Rattle.bh_model.proofs.Totals.{each_of_eight, sum_upto, sum_upto-more, sum_upto-none, sum_upto-le}
 use Rattle.bh_model.proofs.Trees.{greatest-append, keys-body, keys-cell, keys-empty, levels-body, levels-cell, levels-empty, order-body, order-cell, order-empty}
-use Rattle.bh_model.specs.Trees.{Tree, Empty, Body, Cell, body_levels_from, cell_count, cell_keys_from, cell_of, greatest, order}
+use Rattle.bh_model.specs.Trees.{Tree, Empty, Body, Cell, body_levels_from, cell_count, cell_keys_from, cell_of, greatest, height, order}
+
+-- ---- height
+
+-- the children of a cell are less high
+pub height_falls : (f : ℕ → Tree) (k : ℕ) → k < 8 → height (f k) < height (cell_of f)
+unfolding height
+height_falls f k small =
+    each_of_eight (λ j. height (f j) < height (cell_of f)) (omega arith) (omega arith) (omega arith) (omega arith) (omega arith) (omega arith) (omega arith) (omega arith) k small
+
+-- a cell is as low as a bound that its children keep
+pub height_within : (f : ℕ → Tree) (most : ℕ) → ((k : ℕ) → k < 8 → height (f k) < most) → height (cell_of f) ≤ most
+unfolding height
+height_within f most each =
+    omega (arith, each 0 (omega arith), each 1 (omega arith), each 2 (omega arith), each 3 (omega arith), each 4 (omega arith), each 5 (omega arith), each 6 (omega arith), each 7 (omega arith))
+
+-- nothing and one body are flat
+pub height-empty : height Empty ≡ 0
+unfolding height
+height-empty = refl
+
+pub height-body : (n : ℕ) → height (Body n) ≡ 0
+unfolding height
+height-body n = refl
 
 -- ---- order
 
@@ -35,7 +57,7 @@ unfolding orders
 orders_all f t k bodies now e n all =
     n ∙ ap (λ y. bodies ++ joined (λ j. order (f j)) y) all ∙ ap (λ y. bodies ++ y) (sym (ap order e ∙ order-cell f))
 
-pub ruleset order_steps = (child_height, orders_start, order_none, order_one, orders_next, orders_all)
+pub ruleset order_steps = (orders_start, order_none, order_one, orders_next, orders_all)
 
 -- ---- depth
 
@@ -66,7 +88,7 @@ deepest_all f t k level now e n all =
     n ∙ ap (λ y. greatest (joined (λ j. body_levels_from (f j) (level + 1)) y)) all ∙ ap (λ l. greatest (joined (λ j. body_levels_from (f j) l) 8)) (add-one level)
     ∙ ap greatest (sym (levels-cell f level)) ∙ sym (ap (λ y. greatest (body_levels_from y level)) e)
 
-pub ruleset depth_steps = (child_height, deepest_start, deepest_none, deepest_one, deepest_next, deepest_all)
+pub ruleset depth_steps = (deepest_start, deepest_none, deepest_one, deepest_next, deepest_all)
 
 -- ---- cells
 
@@ -129,4 +151,4 @@ pub counts_few : (f : ℕ → Tree) (k : ℕ) → k < 8 → counts f (k + 1) ≤
 unfolding counts
 counts_few f k l = sum_upto-le (λ j. cell_count (f j)) (k + 1) 8 (omega arith)
 
-pub ruleset count_steps = (child_height, counts_start, count_none, count_one, counts_next, counts_all, counts_few)
+pub ruleset count_steps = (counts_start, count_none, count_one, counts_next, counts_all, counts_few)
