@@ -1,11 +1,11 @@
 -- The order of the canonical octree has exactly the bodies of the list, each once.
-use Rattle.std.proofs.Common.{ℕ, ◌+◌, ◌*◌, ◌≡◌, ◌↔◌, zero, suc, refl, sym, ◌∙◌, ap, subst, inl, inr, arith, List, [], ◌∷◌}
+use Rattle.std.proofs.Common.{ℕ, ◌+◌, ◌*◌, ◌<◌, ◌≡◌, ◌↔◌, zero, suc, refl, sym, ◌∙◌, ap, subst, inl, inr, arith, List, [], ◌∷◌}
 use Rattle.octant_code.specs.Space.{Site, octant_of, key_of}
 use Rattle.octant_code.proofs.Keys.{octant-small}
 use Rattle.octant_code.proofs.InCube.{same_site}
-use Rattle.bh_model.specs.Bodies.{IsIn, NoneTwice}
-use Rattle.bh_model.specs.Trees.{in_octant, octree_from, octree, order}
-use Rattle.bh_model.proofs.Lists.{joined, in_joined, joined_in, none_twice_joined}
+use Rattle.bh_model.specs.Bodies.{IsIn, NoneTwice, numbers}
+use Rattle.bh_model.specs.Trees.{Body, Tree, cell_of, in_octant, octree_from, octree, order}
+use Rattle.bh_model.proofs.Lists.{joined, in_joined, in_numbers, joined_in, none_twice_joined}
 use Rattle.bh_model.proofs.Trees.{octree-none, octree-one, octree-deep, octree-many, order-empty, order-body, order-cell}
 use Rattle.bh_model.proofs.Cells.{ArePlaced, LieUnder, in_octant-member, in_octant-keeps, in_octant-once, in_octant-placed, in_octant-under, under_root}
 
@@ -77,3 +77,15 @@ order_members site bodies n once placed = (from_list site 21 0 bodies n, in_orde
 -- and none of them twice
 pub order_has_none_twice : (site : ℕ → Site) (bodies : List ℕ) → NoneTwice (order (octree site bodies))
 order_has_none_twice site bodies = order_once site 21 0 bodies
+
+-- the bodies of a child of a cell are the cell's
+pub child_in_order : (f : ℕ → Tree) (k n : ℕ) → k < 8 → IsIn (order (f k)) n → IsIn (order (cell_of f)) n
+child_in_order f k n small i = subst (λ (y : List ℕ). IsIn y n) (sym (order-cell f)) (joined_in (λ j. order (f j)) 8 k n small i)
+
+-- the body of a tree of one body
+pub body_in_order : (t : Tree) (n : ℕ) → t ≡ Body n → IsIn (order t) n
+body_in_order t n e = subst (λ (y : List ℕ). IsIn y n) (sym (ap order e ∙ order-body n)) (inl refl)
+
+-- the bodies of the canonical octree of the numbers below a number are below it
+pub numbers_in_order : (site : ℕ → Site) (count n : ℕ) → IsIn (order (octree site (numbers count))) n → n < count
+numbers_in_order site count n i = (in_numbers count n).0 (from_list site 21 0 (numbers count) n i)

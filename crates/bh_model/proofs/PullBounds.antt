@@ -13,7 +13,8 @@ use Rattle.bh_model.specs.Trees.{Tree, Empty, Body, Cell, octree}
 use Rattle.bh_model.specs.Moments.{Matter, centre, mass_of, total}
 use Rattle.bh_model.specs.Pulls.{IsSmall, IsWithin, PullLaw, add_pull, is_far, is_whole, no_pull, pull, pull_from, sum_of_eight, term}
 use Rattle.bh_model.specs.declared.pull.Pull.{Pull}
-use Rattle.bh_model.proofs.Standing.{Stands, count_numbers, count_own, is_other, is_own, stands_of_all, total_of_all, total_own_other}
+use Rattle.bh_model.proofs.Standing.{count_numbers, count_own, is_other, is_own, stands_of_all, total_of_all, total_own_other}
+use Rattle.bh_model.specs.Standing.{Stands}
 use Rattle.bh_model.proofs.Terms.{term-small}
 
 -- ---- sums of pulls

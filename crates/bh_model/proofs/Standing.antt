@@ -13,6 +13,7 @@ use Rattle.octant_code.proofs.InCube.{same_site}
 use Rattle.bh_model.specs.Bodies.{IsIn, NoneTwice, numbers}
 use Rattle.bh_model.specs.Trees.{Tree, Empty, Body, Cell, cell_of, in_octant, octree_from, octree}
 use Rattle.bh_model.specs.Moments.{total}
+use Rattle.bh_model.specs.Standing.{Stands}
 use Rattle.bh_model.proofs.Lists.{filter-none, filter-all, in_numbers, numbers_once}
 use Rattle.bh_model.proofs.Trees.{octree-none, octree-one, octree-many}
 use Rattle.bh_model.proofs.Totals.{sum_upto, sum_upto-same, total-empty, total-body, total-cell}
@@ -177,14 +178,6 @@ pub total_own_other : (n : ℕ) (tree : Tree) → total (is_own n) tree + total 
 total_own_other n tree = total_adds (is_own n) (is_other n) (λ k. 1) (own_or_other n) tree
 
 -- ---- how the cells of a canonical octree stand
-
--- the tree of a cube of side 2 ^ down: each body is one of so many, each cell has a cube to divide and two bodies
-unfoldable pub Stands : ℕ → ℕ → Tree → Type 0
-Stands most down Empty = Unit {0}
-Stands most down (Body n) = n < most
-Stands most down (Cell a b c d e f g h) =
-    (1 ≤ down) × (2 ≤ total (λ n. 1) (Cell a b c d e f g h)) × Stands most (down - 1) a × Stands most (down - 1) b × Stands most (down - 1) c × Stands most (down - 1) d
-    × Stands most (down - 1) e × Stands most (down - 1) f × Stands most (down - 1) g × Stands most (down - 1) h
 
 stands_none : (most down : ℕ) → Stands most down Empty
 unfolding Stands

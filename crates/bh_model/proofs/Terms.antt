@@ -11,7 +11,7 @@ use Rattle.octant_code.specs.Numbers.{quotient, root}
 use Rattle.octant_code.specs.Space.{Site, squared_distance}
 use Rattle.octant_code.proofs.Roots.{root-positive}
 use Rattle.octant_code.proofs.Distances.{gaps_within}
-use Rattle.bh_model.specs.Pulls.{PullLaw, part, term, IsWithin, IsSmall}
+use Rattle.bh_model.specs.Pulls.{PullLaw, component, term, IsWithin, IsSmall}
 use Rattle.bh_model.specs.declared.pull.Pull.{Pull}
 
 -- the quotient of a number that is not positive is not positive
@@ -24,16 +24,16 @@ mul-neg a zero = rw mul-zero
 mul-neg a (suc b) = refl
 
 -- one coordinate of a term where the mass is on the upper side
-pub part-up : (scale from to divisor : ℕ) → from ≤ to → part scale from to divisor ≡ pos (scale * (to - from) / divisor)
-unfolding part
-part-up scale from to divisor h =
+pub component-up : (scale from to divisor : ℕ) → from ≤ to → component scale from to divisor ≡ pos (scale * (to - from) / divisor)
+unfolding component
+component-up scale from to divisor h =
     let e : pos to -ℤ pos from ≡ pos (to - from) = omega (arith, ints) in
     ap (λ z. quotient (pos scale *ℤ z) divisor) e
 
 -- and where it is on the lower side
-pub part-down : (scale from to divisor : ℕ) → to ≤ from → part scale from to divisor ≡ neg_ℤ (pos (scale * (from - to) / divisor))
-unfolding part
-part-down scale from to divisor h =
+pub component-down : (scale from to divisor : ℕ) → to ≤ from → component scale from to divisor ≡ neg_ℤ (pos (scale * (from - to) / divisor))
+unfolding component
+component-down scale from to divisor h =
     let e : pos to -ℤ pos from ≡ neg_ℤ (pos (from - to)) = omega (arith, ints) in
     ap (λ z. quotient (pos scale *ℤ z) divisor) e
     ∙ ap (λ z. quotient z divisor) (mul-neg scale (from - to))
@@ -43,15 +43,15 @@ part-down scale from to divisor h =
 part_le : (scale gap divisor : ℕ) → gap ≤ divisor → 0 < divisor → scale * gap / divisor ≤ scale
 part_le scale gap divisor h p = div-le_of_le-mul divisor (omega (arith, mul-le-mul_left scale h))
 
-part-within : (scale from to divisor : ℕ) → abs_diff from to ≤ divisor → 0 < divisor → IsWithin scale (part scale from to divisor)
-part-within scale from to divisor near p =
+component-within : (scale from to divisor : ℕ) → abs_diff from to ≤ divisor → 0 < divisor → IsWithin scale (component scale from to divisor)
+component-within scale from to divisor near p =
     elim (cases_lt from to) [
       | inl lt ↦
-          let e = part-up scale from to divisor (omega arith) in
+          let e = component-up scale from to divisor (omega arith) in
           let l = part_le scale (to - from) divisor (omega arith) p in
           record { low = omega (arith, ints, e, l); high = omega (arith, ints, e, l) }
       | inr ge ↦
-          let e = part-down scale from to divisor ge in
+          let e = component-down scale from to divisor ge in
           let l = part_le scale (from - to) divisor (omega arith) p in
           record { low = omega (arith, ints, e, l); high = omega (arith, ints, e, l) }
     ]
@@ -72,9 +72,9 @@ term-small law mass from to apart =
     let above = divisor-above r2 apart in
     let gaps = gaps_within from to in
     record {
-      x = part-within (law.g * mass) from.x to.x (r2 * root r2) (omega (arith, gaps.x)) positive;
-      y = part-within (law.g * mass) from.y to.y (r2 * root r2) (omega (arith, gaps.y)) positive;
-      z = part-within (law.g * mass) from.z to.z (r2 * root r2) (omega (arith, gaps.z)) positive;
+      x = component-within (law.g * mass) from.x to.x (r2 * root r2) (omega (arith, gaps.x)) positive;
+      y = component-within (law.g * mass) from.y to.y (r2 * root r2) (omega (arith, gaps.y)) positive;
+      z = component-within (law.g * mass) from.z to.z (r2 * root r2) (omega (arith, gaps.z)) positive;
       met = omega arith;
     }
 
@@ -84,18 +84,18 @@ one_pull x y z = record { ax = x; ay = y; az = z; met = 1 }
 
 -- a term from its three coordinates
 pub term-from : (law : PullLaw) (mass : ℕ) (from to : Site) (scale r2 r : ℕ) (x y z : ℤ) → scale ≡ law.g * mass → r2 ≡ squared_distance from to + law.eps2 → r ≡ root r2
-    → x ≡ part scale from.x to.x (r2 * r) → y ≡ part scale from.y to.y (r2 * r) → z ≡ part scale from.z to.z (r2 * r)
+    → x ≡ component scale from.x to.x (r2 * r) → y ≡ component scale from.y to.y (r2 * r) → z ≡ component scale from.z to.z (r2 * r)
     → one_pull x y z ≡ term law mass from to
 unfolding term
 term-from law mass from to scale r2 r x y z g e f p q s =
     let root_is : r ≡ root (squared_distance from to + law.eps2) = f ∙ ap root e in
     let divisors : r2 * r ≡ (squared_distance from to + law.eps2) * root (squared_distance from to + law.eps2) = ap (λ k. k * r) e ∙ ap (λ k. (squared_distance from to + law.eps2) * k) root_is in
-    let whole : ℕ → ℕ → ℤ = λ a b. part scale a b (r2 * r) in
+    let whole : ℕ → ℕ → ℤ = λ a b. component scale a b (r2 * r) in
     ap (λ k. one_pull k y z) p ∙ ap (λ k. one_pull (whole from.x to.x) k z) q ∙ ap (λ k. one_pull (whole from.x to.x) (whole from.y to.y) k) s
-    ∙ ap (λ d. one_pull (part scale from.x to.x d) (part scale from.y to.y d) (part scale from.z to.z d)) divisors
-    ∙ ap (λ k. one_pull (part k from.x to.x ((squared_distance from to + law.eps2) * root (squared_distance from to + law.eps2)))
-    (part k from.y to.y ((squared_distance from to + law.eps2) * root (squared_distance from to + law.eps2)))
-    (part k from.z to.z ((squared_distance from to + law.eps2) * root (squared_distance from to + law.eps2)))) g
+    ∙ ap (λ d. one_pull (component scale from.x to.x d) (component scale from.y to.y d) (component scale from.z to.z d)) divisors
+    ∙ ap (λ k. one_pull (component k from.x to.x ((squared_distance from to + law.eps2) * root (squared_distance from to + law.eps2)))
+    (component k from.y to.y ((squared_distance from to + law.eps2) * root (squared_distance from to + law.eps2)))
+    (component k from.z to.z ((squared_distance from to + law.eps2) * root (squared_distance from to + law.eps2)))) g
 
 -- ---- in words of 128 bits
 

@@ -1,5 +1,5 @@
 -- Totals of trees: over the children of a cell, and over the bodies in tree order.
-use Rattle.std.proofs.Common.{◌≡◌, ◌≤◌, ◌<◌, ◌+◌, ℕ, zero, suc, inl, inr, add-one, refl, subst, arith, sum_by}
+use Rattle.std.proofs.Common.{◌≡◌, ◌≤◌, ◌<◌, ◌+◌, ℕ, zero, suc, inl, inr, add-one, refl, ap, ◌∙◌, subst, arith, sum_by}
 use Rattle.std.proofs.lemmas.Bool.{cases_lt}
 use Rattle.std.proofs.lemmas.List.Sums.{sum_by-append}
 use Rattle.bh_model.specs.Trees.{Tree, Empty, Body, Cell, cell_of, order}
@@ -67,6 +67,15 @@ total-body quantity n = refl
 pub total-cell : (quantity : ℕ → ℕ) (child : ℕ → Tree) → total quantity (cell_of child) ≡ sum_upto (λ k. total quantity (child k)) 8
 unfolding total sum_upto
 total-cell quantity child = omega arith
+
+-- the total of a tree by what it is
+pub total_none : (quantity : ℕ → ℕ) (t : Tree) → t ≡ Empty → total quantity t ≡ 0
+total_none quantity t e = ap (total quantity) e ∙ total-empty quantity
+
+pub total_one : (quantity : ℕ → ℕ) (t : Tree) (n : ℕ) → t ≡ Body n → total quantity t ≡ quantity n
+total_one quantity t n e = ap (total quantity) e ∙ total-body quantity n
+
+pub ruleset total_steps = (total_none, total_one)
 
 -- a child has no more than its cell
 pub child_total : (quantity : ℕ → ℕ) (child : ℕ → Tree) (k : ℕ) → k < 8 → total quantity (child k) ≤ total quantity (cell_of child)

@@ -24,8 +24,8 @@ pub record IsPullLaw (l : PullLaw) : Type 0 where
 -- ---- one term
 
 -- one coordinate of a term: `scale` times the way from a coordinate to another, divided, and rounded towards zero
-unfoldable pub part : ℕ → ℕ → ℕ → ℕ → ℤ
-part scale from to divisor = quotient (pos scale *ℤ (pos to -ℤ pos from)) divisor
+unfoldable pub component : ℕ → ℕ → ℕ → ℕ → ℤ
+component scale from to divisor = quotient (pos scale *ℤ (pos to -ℤ pos from)) divisor
 
 -- the term of a mass at a point on a body at another: g * mass * d / (r2 * r) in each coordinate, with d the way to the mass,
 -- r2 the squared distance and the softening, and r its root
@@ -34,9 +34,9 @@ term law mass from to =
     let r2 : ℕ = squared_distance from to + law.eps2 in
     let divisor : ℕ = r2 * root r2 in
     record {
-      ax = part (law.g * mass) from.x to.x divisor;
-      ay = part (law.g * mass) from.y to.y divisor;
-      az = part (law.g * mass) from.z to.z divisor;
+      ax = component (law.g * mass) from.x to.x divisor;
+      ay = component (law.g * mass) from.y to.y divisor;
+      az = component (law.g * mass) from.z to.z divisor;
       met = 1;
     }
 
@@ -88,7 +88,7 @@ pub record IsWithin (bound : ℕ) (z : ℤ) : Type 0 where
   pub low : neg_ℤ (pos bound) ≤ℤ z
   pub high : z ≤ℤ pos bound
 
--- each part of a pull lies between minus a bound and the bound, and it has at most so many terms
+-- each component of a pull lies between minus a bound and the bound, and it has at most so many terms
 pub record IsSmall (bound terms : ℕ) (p : Pull) : Type 0 where
   pub x : IsWithin bound p.ax
   pub y : IsWithin bound p.ay

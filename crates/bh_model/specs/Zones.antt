@@ -1,5 +1,5 @@
 -- Costs of bodies, and the zones that the workers have of a tree (costzones: Singh, Holt, Totsuka, Gupta and Hennessy, JPDC 1995).
-use Rattle.std.specs.Prelude.{ℕ, ◌+◌, ◌*◌, ◌/◌, ◌≡◌, ◌<◌, List, [], ◌∷◌, map, nat_eq, replicate, sum_by, if◌then◌else◌}
+use Rattle.std.specs.Prelude.{ℕ, ◌+◌, ◌*◌, ◌/◌, ◌≡◌, ◌<◌, ◌≤◌, List, [], ◌∷◌, map, nat_eq, replicate, slice_index, sum_by, if◌then◌else◌}
 use Rattle.bh_model.specs.Bodies.{IsIn, numbers}
 use Rattle.bh_model.specs.Trees.{Tree, greatest, order}
 use Rattle.bh_model.specs.declared.pull.Pull.{Pull}
@@ -11,6 +11,15 @@ first_costs count = replicate count 1
 -- the cost of a body after a frame: 1, and the number of terms of its pull in that frame
 abbrev pub cost_after : Pull → ℕ
 cost_after p = 1 + p.met
+
+-- a cost is from 1 to 65,536
+pub record IsCost (cost : ℕ) : Type 0 where
+  pub positive : 1 ≤ cost
+  pub small : cost ≤ 65536
+
+-- the cost of a body, by a list of costs
+abbrev pub cost_at : List ℕ → ℕ → ℕ
+cost_at costs n = slice_index costs n
 
 -- the cost of a list of bodies
 abbrev pub cost_of : (ℕ → ℕ) → List ℕ → ℕ

@@ -23,5 +23,5 @@ pub use plain_frame::{plain_moment, plain_pull, plain_zone};
 pub use plan::{Builder, Plan};
 pub use pull::{Law, Pull};
 pub use pull_laws::{a_pull_is_below_the_bound, a_term_is_at_most_the_constant_times_the_mass};
-pub use term::{plain_part, plain_term};
+pub use term::{plain_component, plain_term};
 pub use zone_laws::{a_cells_cost_is_that_of_its_bodies, each_body_is_in_one_zone};

@@ -2,7 +2,7 @@
 
 ghost use Rattle.std.specs.Prelude.{◌≡◌, ◌+◌, ◌*◌, ◌^◌, ◌<◌};
 ghost use Rattle.octant_code.specs.Space.{squared_distance};
-ghost use Rattle.bh_model.specs.Pulls.{part, term};
+ghost use Rattle.bh_model.specs.Pulls.{component, term};
 
 use crate::pull::{Law, Pull};
 use octant_code::{Point, short_isqrt, squared_distance, trunc_div};
@@ -21,20 +21,20 @@ pub fn plain_term(law: &Law, mass: u64, from: Point, to: Point) -> Pull
     let divisor = u128::from(r2) * u128::from(short_isqrt(r2));
     let scale = u128::from(law.g) * u128::from(mass);
     Pull {
-        ax: plain_part(scale, from.x, to.x, divisor),
-        ay: plain_part(scale, from.y, to.y, divisor),
-        az: plain_part(scale, from.z, to.z, divisor),
+        ax: plain_component(scale, from.x, to.x, divisor),
+        ay: plain_component(scale, from.y, to.y, divisor),
+        az: plain_component(scale, from.z, to.z, divisor),
         met: 1,
     }
 }
 
 /// One coordinate of a term: `scale * (to - from) / divisor`, rounded towards zero. The scale is below
 /// 2^80, and the divisor is at least 1 and below 2^127.
-pub fn plain_part(scale: u128, from: u32, to: u32, divisor: u128) -> i128
+pub fn plain_component(scale: u128, from: u32, to: u32, divisor: u128) -> i128
     requires scale_fits { scale < 2 ^ 80 }
     requires positive { 0 < divisor }
     requires small { divisor < 2 ^ 127 }
-    ensures { result ≡ part scale from to divisor }
+    ensures { result ≡ component scale from to divisor }
 {
     trunc_div(scale as i128 * (i128::from(to) - i128::from(from)), divisor)
 }

@@ -13,7 +13,7 @@ use Rattle.bh_model.specs.Moments.{Matter, centre, mass_of, total}
 use Rattle.bh_model.specs.Pulls.{PullLaw, add_pull, is_whole, pull_from, sum_of_eight, term}
 use Rattle.bh_model.specs.declared.pull.Pull.{Pull}
 use Rattle.bh_model.proofs.PullBounds.{StandsApart, pull-empty, pull-opened, pull-other, pull-own, pull-whole}
-use Rattle.bh_model.proofs.Standing.{Stands}
+use Rattle.bh_model.specs.Standing.{Stands}
 use Rattle.force_walk.specs.Flat.{IsLaid, body_node, cell_node, closed, flat, is_opened, walked}
 use Rattle.force_walk.specs.declared.node.WalkNode.{WalkNode}
 use Rattle.force_walk.proofs.Opens.{body_opened, cell_opened}

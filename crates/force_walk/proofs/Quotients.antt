@@ -12,8 +12,8 @@ use Rattle.octant_code.specs.Space.{Site, IsInCube, squared_distance}
 use Rattle.octant_code.proofs.Distances.{squared_distance-small}
 use lib.Signed.{mag}
 use Rattle.octant_code.specs.Numbers.{root}
-use Rattle.bh_model.specs.Pulls.{PullLaw, part, term}
-use Rattle.bh_model.proofs.Terms.{part-up, part-down, one_pull, stays, term-from}
+use Rattle.bh_model.specs.Pulls.{PullLaw, component, term}
+use Rattle.bh_model.proofs.Terms.{component-up, component-down, one_pull, stays, term-from}
 
 -- a quotient by its two bounds
 quotient-is : (p d q : ℕ) → q * d ≤ p → p < q * d + d → q ≡ p / d
@@ -56,30 +56,30 @@ share-is scale divisor rate (suc gap) unit slack low high sure some positive =
     quotient-is (scale * suc gap) divisor q below (omega arith)
 
 -- a share upwards is the coordinate of a term
-pub part-shared-up : (scale from to divisor rate gap unit slack : ℕ) → from ≤ to → gap ≡ abs_diff from to → rate * divisor ≤ scale * unit
+pub component-shared-up : (scale from to divisor rate gap unit slack : ℕ) → from ≤ to → gap ≡ abs_diff from to → rate * divisor ≤ scale * unit
     → scale * unit < rate * divisor + slack * divisor → rate * gap % unit + slack * gap ≤ unit → 0 < unit → 0 < divisor
-    → pos (rate * gap / unit) ≡ part scale from to divisor
-part-shared-up scale from to divisor rate gap unit slack up is_gap low high sure some positive =
+    → pos (rate * gap / unit) ≡ component scale from to divisor
+component-shared-up scale from to divisor rate gap unit slack up is_gap low high sure some positive =
     let g : gap ≡ to - from = omega arith in
-    ap pos (share-is scale divisor rate gap unit slack low high sure some positive) ∙ ap (λ n. pos (scale * n / divisor)) g ∙ sym (part-up scale from to divisor up)
+    ap pos (share-is scale divisor rate gap unit slack low high sure some positive) ∙ ap (λ n. pos (scale * n / divisor)) g ∙ sym (component-up scale from to divisor up)
 
 -- and downwards
-pub part-shared-down : (scale from to divisor rate gap unit slack : ℕ) → to ≤ from → gap ≡ abs_diff from to → rate * divisor ≤ scale * unit
+pub component-shared-down : (scale from to divisor rate gap unit slack : ℕ) → to ≤ from → gap ≡ abs_diff from to → rate * divisor ≤ scale * unit
     → scale * unit < rate * divisor + slack * divisor → rate * gap % unit + slack * gap ≤ unit → 0 < unit → 0 < divisor
-    → neg_ℤ (pos (rate * gap / unit)) ≡ part scale from to divisor
-part-shared-down scale from to divisor rate gap unit slack down is_gap low high sure some positive =
+    → neg_ℤ (pos (rate * gap / unit)) ≡ component scale from to divisor
+component-shared-down scale from to divisor rate gap unit slack down is_gap low high sure some positive =
     let g : gap ≡ from - to = omega arith in
     ap (λ n. neg_ℤ (pos n)) (share-is scale divisor rate gap unit slack low high sure some positive) ∙ ap (λ n. neg_ℤ (pos (scale * n / divisor))) g
-    ∙ sym (part-down scale from to divisor down)
+    ∙ sym (component-down scale from to divisor down)
 
 -- and either way
-pub part-shared : (scale from to divisor rate gap unit slack : ℕ) → gap ≡ abs_diff from to → rate * divisor ≤ scale * unit
+pub component-shared : (scale from to divisor rate gap unit slack : ℕ) → gap ≡ abs_diff from to → rate * divisor ≤ scale * unit
     → scale * unit < rate * divisor + slack * divisor → rate * gap % unit + slack * gap ≤ unit → 0 < unit → 0 < divisor
-    → cond (leb from to) (pos (rate * gap / unit)) (neg_ℤ (pos (rate * gap / unit))) ≡ part scale from to divisor
-part-shared scale from to divisor rate gap unit slack is_gap low high sure some positive =
+    → cond (leb from to) (pos (rate * gap / unit)) (neg_ℤ (pos (rate * gap / unit))) ≡ component scale from to divisor
+component-shared scale from to divisor rate gap unit slack is_gap low high sure some positive =
     elim (cases_lt to from) [
-      | inl down ↦ let q = part-shared-down scale from to divisor rate gap unit slack (omega arith) is_gap low high sure some positive in grind (arith, nat_tests)
-      | inr up ↦ let q = part-shared-up scale from to divisor rate gap unit slack up is_gap low high sure some positive in grind (arith, nat_tests)
+      | inl down ↦ let q = component-shared-down scale from to divisor rate gap unit slack (omega arith) is_gap low high sure some positive in grind (arith, nat_tests)
+      | inr up ↦ let q = component-shared-up scale from to divisor rate gap unit slack up is_gap low high sure some positive in grind (arith, nat_tests)
     ]
 
 -- a share of a wide rate fits
@@ -111,7 +111,7 @@ reach d2 eps2 from to s t e f p q is soft =
 -- a term from its three coordinates, in the words of 128 bits that hold them
 pub one-term : (law l : PullLaw) (mass : ℕ) (from s to t : Site) (scale d2 r divisor : ℕ) (x y z : ℤ) → law ≡ l → from ≡ s → to ≡ t
     → scale ≡ law.g * mass → d2 ≡ squared_distance s t → r ≡ root (d2 + law.eps2) → divisor ≡ (d2 + law.eps2) * r
-    → x ≡ part scale from.x to.x divisor → y ≡ part scale from.y to.y divisor → z ≡ part scale from.z to.z divisor
+    → x ≡ component scale from.x to.x divisor → y ≡ component scale from.y to.y divisor → z ≡ component scale from.z to.z divisor
     → mag x < 2 ^ 127 → mag y < 2 ^ 127 → mag z < 2 ^ 127
     → one_pull (to_z w128 (of_z w128 x)) (to_z w128 (of_z w128 y)) (to_z w128 (of_z w128 z)) ≡ term l mass s t
 one-term law l mass from s to t scale d2 r divisor x y z law_is from_is to_is scale_is d2_is r_is divisor_is p q v p_fits q_fits v_fits =
@@ -121,5 +121,5 @@ one-term law l mass from s to t scale d2 r divisor x y z law_is from_is to_is sc
     ∙ ap (λ k. one_pull x k (to_z w128 (of_z w128 z))) (stays y q_fits)
     ∙ ap (λ k. one_pull x y k) (stays z v_fits)
     ∙ term-from law mass from to scale r2 r x y z scale_is (ap (λ k. k + law.eps2) start) r_is
-    (p ∙ ap (λ d. part scale from.x to.x d) divisor_is) (q ∙ ap (λ d. part scale from.y to.y d) divisor_is) (v ∙ ap (λ d. part scale from.z to.z d) divisor_is)
+    (p ∙ ap (λ d. component scale from.x to.x d) divisor_is) (q ∙ ap (λ d. component scale from.y to.y d) divisor_is) (v ∙ ap (λ d. component scale from.z to.z d) divisor_is)
     ∙ ap (λ k. term k mass from to) law_is ∙ ap (λ k. term l mass k to) from_is ∙ ap (λ k. term l mass s k) to_is

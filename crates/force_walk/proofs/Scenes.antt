@@ -11,7 +11,8 @@ use Rattle.bh_model.specs.Pulls.{IsPullLaw, PullLaw, add_pull, pull}
 use Rattle.bh_model.specs.Trees.{Tree}
 use Rattle.bh_model.proofs.AllBodies.{sum_numbers, sum_places}
 use Rattle.bh_model.proofs.PullBounds.{StandsApart, pull_among, pull_fits, small_more}
-use Rattle.bh_model.proofs.Standing.{Stands, count_numbers, stands_of_all, total_of_all}
+use Rattle.bh_model.proofs.Standing.{count_numbers, stands_of_all, total_of_all}
+use Rattle.bh_model.specs.Standing.{Stands}
 use Rattle.mass_moments.specs.Kept.{matter_of}
 use Rattle.octree.specs.Reading.{IsOctreeOf}
 use Rattle.octree.specs.Stored.{Stored, tree_of}

@@ -10,6 +10,6 @@ use Rattle.bh_model.specs.declared.pull.Pull.{Pull}
 abbrev pub pulls : PullLaw → Matter → ℕ → Tree → List Pull
 pulls law m count tree = map (λ n. pull law m n tree) (numbers count)
 
--- each part of a pull among so many bodies is below 2 ^ 80 in size, and it has fewer terms than there are bodies
+-- each component of a pull among so many bodies is below 2 ^ 80 in size, and it has fewer terms than there are bodies
 abbrev pub IsPullAmong : ℕ → Pull → Type 0
 IsPullAmong count p = IsSmall (2 ^ 80 - 1) (count - 1) p

@@ -3,9 +3,9 @@
 ghost use Rattle.std.specs.Prelude.{◌≡◌, ◌+◌, ◌-◌, ◌*◌, ◌/◌, ◌%◌, ◌^◌, ◌<◌, ◌≤◌, pos, neg_ℤ, IsTrue, if◌then◌else◌};
 ghost use Rattle.octant_code.specs.Space.{squared_distance};
 ghost use Rattle.octant_code.specs.Numbers.{root};
-ghost use Rattle.bh_model.specs.Pulls.{part, term};
+ghost use Rattle.bh_model.specs.Pulls.{component, term};
 
-use bh_model::{Law, Pull, plain_part};
+use bh_model::{Law, Pull, plain_component};
 use octant_code::{Point, short_isqrt};
 
 /// The term of a mass at a point on a body at another, whose squared distance is `d2`, exactly as
@@ -52,9 +52,9 @@ pub fn term_at(law: &Law, mass: u64, from: Point, to: Point, d2: u64) -> Pull
         };
     }
     Pull {
-        ax: slow_part(scale, from.x, to.x, divisor),
-        ay: slow_part(scale, from.y, to.y, divisor),
-        az: slow_part(scale, from.z, to.z, divisor),
+        ax: slow_component(scale, from.x, to.x, divisor),
+        ay: slow_component(scale, from.y, to.y, divisor),
+        az: slow_component(scale, from.z, to.z, divisor),
         met,
     }
 }
@@ -244,11 +244,11 @@ fn wide_share(rate: u64, gap: u32, up: bool) -> i128
 /// One coordinate of a term, divided. It stands apart, so that the ways above stay short.
 #[cold]
 #[inline(never)]
-fn slow_part(scale: u128, from: u32, to: u32, divisor: u128) -> i128
+fn slow_component(scale: u128, from: u32, to: u32, divisor: u128) -> i128
     requires scale_fits { scale < 2 ^ 80 }
     requires positive { 0 < divisor }
     requires divisor_fits { divisor < 2 ^ 68 }
-    ensures { result ≡ part scale from to divisor }
+    ensures { result ≡ component scale from to divisor }
 {
-    plain_part(scale, from, to, divisor)
+    plain_component(scale, from, to, divisor)
 }

@@ -12,7 +12,8 @@ use Rattle.octant_code.specs.Space.{Site}
 use Rattle.scene_file.specs.Bodies.{AreBodies, body_at, nobody, sites_of, total_mass}
 use Rattle.scene_file.specs.declared.bodies.Body.{Body as BodyOf}
 use Rattle.mass_moments.specs.Filling.{AreSmall}
-use Rattle.mass_moments.specs.Kept.{IsCost, cost_at, matter_of}
+use Rattle.bh_model.specs.Zones.{IsCost, cost_at}
+use Rattle.mass_moments.specs.Kept.{matter_of}
 
 -- a total over the octree of the numbers below a number
 total_numbers : (q : ℕ → ℕ) (site : ℕ → Site) (n : ℕ) → total q (octree site (numbers n)) ≤ sum_upto q n

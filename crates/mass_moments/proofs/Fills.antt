@@ -32,16 +32,16 @@ filled_start m cost cell list = record {
 }
 
 -- the moments with one child more
-pub part_more : (m : Matter) (cost : ℕ → ℕ) (cell child : Spot) (k : ℕ) (whole part : Moment) → IsChildOf cell k child → whole ≡ moment_upto m cost (child_under cell) k
+part_more : (m : Matter) (cost : ℕ → ℕ) (cell child : Spot) (k : ℕ) (whole part : Moment) → IsChildOf cell k child → whole ≡ moment_upto m cost (child_under cell) k
     → part ≡ moment m cost (tree_under child) → add_moment whole part ≡ add_moment (moment_upto m cost (child_under cell) k) (moment m cost (child_under cell k))
 part_more m cost cell child k whole part is whole_is part_is =
     ap (λ y. add_moment y part) whole_is ∙ ap (add_moment (moment_upto m cost (child_under cell) k)) (part_is ∙ ap (moment m cost) is.tree)
 
 -- one child more
-pub filled_more : (m : Matter) (cost : ℕ → ℕ) (s cell child : Spot) (k : ℕ) (before now next : List Moment) (whole part more : Moment)
+pub filled_more : {m : Matter} {cost : ℕ → ℕ} {s cell child : Spot} {k : ℕ} {before now next : List Moment} {whole part more : Moment}
     → IsCellAt s cell → IsChildOf cell k child → k < 8 → AreFilledUpTo m cost cell k before now whole → AreFilled m cost child now next
     → part ≡ moment m cost (tree_under child) → more ≡ add_moment whole part → AreProductsInCube more → AreFilledUpTo m cost cell (k + 1) before next more
-filled_more m cost s cell child k before now next whole part more at is small upto filled part_is more_is inside = record {
+filled_more {m} {cost} {s} {cell} {child} {k} {before} {now} {next} {whole} {part} {more} at is small upto filled part_is more_is inside = record {
   whole_is = more_is ∙ part_more m cost cell child k whole part is upto.whole_is part_is ∙ upto_more m cost (child_under cell) k;
   inside = inside;
   own = λ j d l r. elim (cases_lt j k) [
@@ -54,17 +54,17 @@ filled_more m cost s cell child k before now next whole part more at is small up
 }
 
 -- the moment of a cell whose children are filled in
-pub whole_cell : (m : Matter) (cost : ℕ → ℕ) (s cell : Spot) (k : ℕ) (before now : List Moment) (whole : Moment)
+pub whole_cell : {m : Matter} {cost : ℕ → ℕ} {s cell : Spot} {k : ℕ} {before now : List Moment} {whole : Moment}
     → IsCellAt s cell → k ≡ 8 → AreFilledUpTo m cost cell k before now whole → whole ≡ moment m cost (tree_under s)
-whole_cell m cost s cell k before now whole at all upto =
+whole_cell {m} {cost} {s} {cell} {k} {before} {now} {whole} at all upto =
     upto.whole_is ∙ ap (moment_upto m cost (child_under cell)) all ∙ upto_all m cost (child_under cell) ∙ ap (moment m cost) (sym at.tree)
 
 -- a cell with all its children
-pub filled_cell : (m : Matter) (cost : ℕ → ℕ) (s cell : Spot) (k c : ℕ) (before now : List Moment) (whole : Moment)
+pub filled_cell : {m : Matter} {cost : ℕ → ℕ} {s cell : Spot} {k c : ℕ} {before now : List Moment} {whole : Moment}
     → IsCellAt s cell → k ≡ 8 → c ≡ cell_at cell → c < length now → AreFilledUpTo m cost cell k before now whole → AreFilled m cost s before (set now c whole)
-filled_cell m cost s cell k c before now whole at all number within upto =
+filled_cell {m} {cost} {s} {cell} {k} {c} {before} {now} {whole} at all number within upto =
     let own_is : whole ≡ moment m cost (tree_below s.octree c) =
-    whole_cell m cost s cell k before now whole at all upto ∙ ap (moment m cost) (at.kept ∙ ap (tree_below s.octree) (sym number)) in
+    whole_cell at all upto ∙ ap (moment m cost) (at.kept ∙ ap (tree_below s.octree) (sym number)) in
     record {
       own = λ d r. elim (same_or_not d c) [
         | inl same ↦
@@ -82,13 +82,13 @@ filled_cell m cost s cell k c before now whole at all number within upto =
     }
 
 -- a child's tree has its cell's bounds
-pub small_at : (m : Matter) (cost : ℕ → ℕ) (s cell child : Spot) (k : ℕ) → IsCellAt s cell → IsChildOf cell k child → k < 8 → AreSmall m cost (tree_under s) → AreSmall m cost (tree_under child)
-small_at m cost s cell child k at is l small =
+pub small_at : {m : Matter} {cost : ℕ → ℕ} {s cell child : Spot} {k : ℕ} → IsCellAt s cell → IsChildOf cell k child → k < 8 → AreSmall m cost (tree_under s) → AreSmall m cost (tree_under child)
+small_at {m} {cost} {s} {cell} {child} {k} at is l small =
     subst (AreSmall m cost) (sym is.tree) (small_child m cost (child_under cell) k l (subst (AreSmall m cost) at.tree small))
 
 -- and so have the sums with one child more
-pub small_more : (m : Matter) (cost : ℕ → ℕ) (s cell child : Spot) (k : ℕ) (before now : List Moment) (whole part : Moment) → IsCellAt s cell → IsChildOf cell k child → k < 8
+pub small_more : {m : Matter} {cost : ℕ → ℕ} {s cell child : Spot} {k : ℕ} {before now : List Moment} {whole part : Moment} → IsCellAt s cell → IsChildOf cell k child → k < 8
     → AreSmall m cost (tree_under s) → AreFilledUpTo m cost cell k before now whole → part ≡ moment m cost (tree_under child) → AreSumsSmall (add_moment whole part)
-small_more m cost s cell child k before now whole part at is l small upto part_is =
+small_more {m} {cost} {s} {cell} {child} {k} {before} {now} {whole} {part} at is l small upto part_is =
     subst AreSumsSmall (sym (part_more m cost cell child k whole part is upto.whole_is part_is))
     (small_upto m cost (child_under cell) k l (subst (AreSmall m cost) at.tree small))

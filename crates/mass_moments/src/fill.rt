@@ -2,12 +2,13 @@
 
 ghost use Rattle.std.specs.Prelude.{◌≡◌, ◌<◌, ◌≤◌, ◌^◌, ℕ, length, slice_set};
 ghost use Rattle.bh_model.specs.Moments.{add_moment, centre_of, moment};
-ghost use Rattle.bh_model.specs.Trees.{Body};
+ghost use Rattle.bh_model.specs.Bodies.{IsIn};
+ghost use Rattle.bh_model.specs.Trees.{Body, order};
 ghost use Rattle.mass_moments.specs.Centred.{AreCentred};
 ghost use Rattle.mass_moments.specs.Filling.{AreFilled, AreProductsInCube, AreSmall};
-ghost use Rattle.mass_moments.specs.Kept.{cost_at, matter_of, moment_at};
-ghost use Rattle.octree.specs.Spot.{tree_under};
-ghost use Rattle.tree_rule.specs.Words.{HasBody, HasCell};
+ghost use Rattle.bh_model.specs.Zones.{cost_at};
+ghost use Rattle.mass_moments.specs.Kept.{matter_of, moment_at};
+ghost use Rattle.octree.specs.Spot.{IsReachable, tree_under};
 
 use bh_model::Moment;
 use octant_code::Point;
@@ -102,9 +103,9 @@ pub fn fill(
     list: &mut [Moment],
     centres: &mut [Point],
 ) -> Moment
-    requires bodies_in { (n : ℕ) → HasBody at.now.octree.words n → n < length bodies.now }
+    requires bodies_in { (n : ℕ) → IsIn (order (tree_under at.now)) n → n < length bodies.now }
     requires one_cost_each { length costs.now ≡ length bodies.now }
-    requires cells_in { (c : ℕ) → HasCell at.now.octree.words c → c < length list.old }
+    requires cells_in { (c : ℕ) → IsReachable at.now.octree c → c < length list.old }
     requires small { AreSmall (matter_of bodies.now) (cost_at costs.now) (tree_under at.now) }
     requires centred { AreCentred list.old centres.old }
     ensures value { result ≡ moment (matter_of bodies.now) (cost_at costs.now) (tree_under at.now) }

@@ -1,7 +1,8 @@
 //! The moments of all cells of an octree in one pass.
 
 ghost use Rattle.std.specs.Prelude.{◌≡◌, All, IfOk, length};
-ghost use Rattle.mass_moments.specs.Kept.{AreMoments, IsCost, cost_at, matter_of};
+ghost use Rattle.bh_model.specs.Zones.{IsCost, cost_at};
+ghost use Rattle.mass_moments.specs.Kept.{AreMoments, matter_of};
 ghost use Rattle.octree.specs.Reading.{IsOctreeOf};
 ghost use Rattle.scene_file.specs.Bodies.{sites_of};
 

@@ -2,7 +2,7 @@
 
 use bh_model::Moment;
 use octant_code::Point;
-use octree::CellNo;
+use octree::{CellNo, Subtree, Top};
 use std::marker::Model;
 
 /// The moments of the cells of an octree, and the centre of mass of each. Contracts see them as the
@@ -27,10 +27,14 @@ impl Model for Moments {
 }
 
 impl Moments {
-    ghost use Rattle.std.specs.Prelude.{◌≡◌, ◌<◌, length};
-    ghost use Rattle.bh_model.specs.Moments.{centre_of};
+    ghost use Rattle.std.specs.Prelude.{◌≡◌, ◌<◌, ℕ, length};
+    ghost use Rattle.bh_model.specs.Bodies.{IsIn};
+    ghost use Rattle.bh_model.specs.Moments.{centre_of, total};
+    ghost use Rattle.bh_model.specs.Trees.{order};
+    ghost use Rattle.bh_model.specs.Zones.{cost_at};
     ghost use Rattle.mass_moments.specs.Centred.{AreCentred};
-    ghost use Rattle.mass_moments.specs.Kept.{moment_at};
+    ghost use Rattle.mass_moments.specs.Kept.{HaveCosts, moment_at};
+    ghost use Rattle.octree.specs.Spot.{tree_under};
 
     // The moments of a list, with their centres.
     pub(crate) fn with_centres(list: Vec<Moment>, centres: Vec<Point>) -> Moments
@@ -63,5 +67,20 @@ impl Moments {
         ensures { result ≡ centre_of (moment_at self.now c.0) }
     {
         self.centres[c.0 as usize]
+    }
+
+    #[tactic(auto, using(bh_model::proofs::Totals::total_steps))]
+    /// The cost of the bodies of a subtree, which is kept for a cell. The moments are those of a tree with
+    /// these costs.
+    pub fn cost_of(&self, at: &Subtree, costs: &[u32]) -> u64
+        requires costs_of_bodies { (n : ℕ) → IsIn (order (tree_under at.now)) n → n < length costs.now }
+        requires moments { HaveCosts at.now.octree (cost_at costs.now) self.now }
+        ensures { result ≡ total (cost_at costs.now) (tree_under at.now) }
+    {
+        match at.top() {
+            Top::Nothing => 0,
+            Top::Body(n) => u64::from(costs[n as usize]),
+            Top::Cell(cell) => self.of(cell.number()).cost,
+        }
     }
 }

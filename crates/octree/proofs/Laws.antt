@@ -1,2 +1,18 @@
 -- The laws of octrees for proofs of the crates above.
+use Rattle.std.proofs.Common.{ℕ, ◌<◌, sym, subst}
+use Rattle.bh_model.proofs.Orders.{body_in_order, child_in_order}
+use Rattle.bh_model.specs.Bodies.{IsIn}
+use Rattle.bh_model.specs.Trees.{Tree, order}
+use Rattle.octree.specs.Spot.{Spot, child_under, tree_under}
+use Rattle.octree.specs.Subtree.{IsBodyAt, IsCellAt, IsChildOf}
 pub use Rattle.octree.proofs.Subtrees.{cell_height, child_height, child_octree}
+
+-- the body of a subtree of one body
+pub top_body_inside : (s : Spot) (n : ℕ) → IsBodyAt s n → IsIn (order (tree_under s)) n
+top_body_inside s n at = body_in_order (tree_under s) n at.tree
+
+-- the bodies of a child are the subtree's
+pub child_bodies : (s cell child : Spot) (k n : ℕ) → IsCellAt s cell → IsChildOf cell k child → k < 8 → IsIn (order (tree_under child)) n → IsIn (order (tree_under s)) n
+child_bodies s cell child k n at is small i =
+    subst (λ (t : Tree). IsIn (order t) n) (sym at.tree)
+    (child_in_order (child_under cell) k n small (subst (λ (t : Tree). IsIn (order t) n) is.tree i))

@@ -2,7 +2,7 @@
 use Rattle.std.specs.Prelude.{ℕ, ◌-◌, ◌/◌, ◌^◌, ◌≤◌}
 use Rattle.bh_model.specs.Trees.{Tree}
 pub use Rattle.bh_model.specs.Trees.{height}
-use Rattle.tree_rule.specs.Words.{IsReached, at_of, cell_word, child_place, tree_from}
+use Rattle.tree_rule.specs.Words.{HasCell, IsReached, at_of, cell_word, child_place, tree_from}
 use Rattle.tree_rule.specs.Sound.{IsReachedAs}
 use Rattle.octree.specs.Stored.{Stored, IsStored, root_word}
 
@@ -35,6 +35,10 @@ cell_at s = s.word / 2 - 1
 -- the tree of a child of the cell
 unfoldable pub child_under : Spot → ℕ → Tree
 child_under s k = tree_of_word s.octree (at_of s.octree.words (child_place (s.word / 2 - 1) k))
+
+-- a cell of an octree can be reached from its root
+abbrev pub IsReachable : Stored → ℕ → Type 0
+IsReachable o c = HasCell o.words c
 
 -- a cell stands below a spot, or at it
 unfoldable pub IsCellUnder : Spot → ℕ → Type 0

@@ -1,7 +1,8 @@
 use Rattle.octree.specs.Spot.{height, tree_under}
 use Rattle.mass_moments.proofs.Fills.{AreFilledUpTo}
 use Rattle.mass_moments.specs.Centred.{AreCentred}
-use Rattle.mass_moments.specs.Kept.{cost_at, matter_of}
+use Rattle.bh_model.specs.Zones.{cost_at}
+use Rattle.mass_moments.specs.Kept.{matter_of}
 use Rattle.mass_moments.proofs.fill.+fill.Given as goal
 
 abbrev pub decreases-fill : goal.decreases-fill

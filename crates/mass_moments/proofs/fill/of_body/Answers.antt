@@ -4,7 +4,8 @@ use Rattle.octant_code.specs.Space.{Site}
 use Rattle.scene_file.specs.Bodies.{body_at, sites_of}
 use Rattle.scene_file.specs.declared.bodies.Body.{Body as BodyOf}
 use Rattle.mass_moments.proofs.Parts.{moment_one, moment_parts, site_of_body}
-use Rattle.mass_moments.specs.Kept.{cost_at, matter_of}
+use Rattle.bh_model.specs.Zones.{cost_at}
+use Rattle.mass_moments.specs.Kept.{matter_of}
 use Rattle.mass_moments.proofs.fill.of_body.Goals as goal
 
 pub returns-clause-value : goal.returns-clause-value

@@ -1,6 +1,9 @@
 use Rattle.std.proofs.Common.{◌≡◌, ◌∙◌, ap, arith, drop, length, subst, sym}
 use Rattle.std.proofs.lemmas.List.{length-map, take_at}
-use Rattle.tree_rule.specs.Words.{HasBody}
+use Rattle.octant_code.specs.Points.{site_at}
+use Rattle.bh_model.proofs.Orders.{numbers_in_order}
+use Rattle.bh_model.specs.Bodies.{IsIn}
+use Rattle.bh_model.specs.Trees.{Tree, order}
 use Rattle.octree.specs.Reading.{tree_below}
 use Rattle.octree.specs.Stored.{Stored}
 use Rattle.scene_file.specs.Bodies.{sites_of}
@@ -8,12 +11,17 @@ use Rattle.scene_file.specs.declared.bodies.Body.{Body as BodyOf}
 use Rattle.bh_model.specs.Moments.{moment}
 use Rattle.mass_moments.proofs.Bounds.{small_octree}
 use Rattle.mass_moments.specs.Filling.{AreSmall}
-use Rattle.mass_moments.specs.Kept.{AreMoments, cost_at, matter_of}
+use Rattle.bh_model.specs.Zones.{cost_at}
+use Rattle.mass_moments.specs.Kept.{AreMoments, matter_of}
 use Rattle.mass_moments.proofs.sums.moments.Goals as goal
 
 pub fill-whole-requires-clause-bodies_in : goal.fill-whole-requires-clause-bodies_in
-fill-whole-requires-clause-bodies_in g c = λ n h.
-    omega (arith, c.requires.octree.canonical.bodies_in n (subst (λ (o : Stored). HasBody o.words n) c.whole.ensures.octree h), length-map c.args.bodies.now (λ (b : BodyOf). b.at))
+fill-whole-requires-clause-bodies_in g c = λ n i.
+    omega (
+      arith,
+      numbers_in_order (site_at (sites_of c.args.bodies.now)) (length (sites_of c.args.bodies.now)) n (subst (λ (t : Tree). IsIn (order t) n) (c.whole.ensures.tree ∙ c.requires.octree.tree) i),
+      length-map c.args.bodies.now (λ (b : BodyOf). b.at),
+    )
 
 pub fill-whole-requires-clause-small : goal.fill-whole-requires-clause-small
 fill-whole-requires-clause-small g c =

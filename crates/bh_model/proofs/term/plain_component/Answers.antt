@@ -2,12 +2,12 @@ use Rattle.std.proofs.Common.{◌≡◌, pos, ◌-ℤ◌, ◌*ℤ◌, to_z, of_z
 use Rattle.std.specs.Int.{w128}
 use Rattle.std.proofs.lemmas.Int.{ints}
 use Rattle.octant_code.specs.Numbers.{quotient}
-use Rattle.bh_model.specs.Pulls.{part}
+use Rattle.bh_model.specs.Pulls.{component}
 use Rattle.bh_model.proofs.Terms.{cast_up, stays, dividend_exact}
-use Rattle.bh_model.proofs.term.plain_part.Goals as goal
+use Rattle.bh_model.proofs.term.plain_component.Goals as goal
 
 pub returns : goal.returns
-unfolding part
+unfolding component
 returns c =
     let way : to_z w128 (of_z w128 (to_z w128 (of_z w128 c.from.result) -ℤ to_z w128 (of_z w128 c.from-2.result))) ≡ pos c.args.to -ℤ pos c.args.from = omega (arith, ints) in
     stays c.trunc_div.result c.trunc_div.type_inv ∙ c.trunc_div.ensures
