@@ -13,6 +13,3 @@ pub mod Standing
 pub mod Terms
 pub mod PullBounds
 pub mod ZoneCuts
-pub mod PlainZones
-pub mod PlainMoments
-pub mod PlainPulls

@@ -1,16 +1,17 @@
 -- How large pulls are: sums of terms, and the pull of a tree by its mass and the number of its bodies.
-use Rattle.std.proofs.Common.{◌≡◌, ◌≢◌, ◌≤◌, ◌<◌, ◌+◌, ◌-◌, ◌*◌, ◌^◌, inl, inr, ℕ, ℤ, pos, ◌+ℤ◌, zero, suc, ltb, ◌&&◌, eqb, not, true, false, Bool, refl, ap, ◌∙◌, arith, List, All, length, sum_by}
+use Rattle.std.proofs.Common.{◌≡◌, ◌≢◌, ◌≤◌, ◌<◌, ◌+◌, ◌-◌, ◌*◌, ◌^◌, inl, inr, ℕ, ℤ, pos, ◌+ℤ◌, zero, suc, ltb, ◌&&◌, eqb, not, true, false, Bool, refl, ap, ◌∙◌, arith, List, All, length, slice_index, subst, sum_by, sym}
 use Rattle.std.proofs.Math.Nat.{mul-zero}
-use Rattle.std.proofs.lemmas.Bool.{cases_Bool, false≢true}
+use Rattle.std.proofs.lemmas.Bool.{cases_Bool, cases_lt, false≢true}
 use Rattle.std.proofs.lemmas.Bool.Decides.{eqb_tells, nat_tests}
 use Rattle.std.proofs.lemmas.Int.{ints}
 use Rattle.std.proofs.lemmas.Nat.{mul-le}
 use borrow.Author.Tests.{ltb-true}
+use Rattle.octant_code.proofs.Distances.{squared_distance-positive}
 use Rattle.octant_code.specs.Points.{site_at, ArePoints}
 use Rattle.octant_code.specs.Space.{Site, IsInCube, key_of, squared_distance}
 use Rattle.bh_model.specs.Bodies.{numbers}
 use Rattle.bh_model.specs.Trees.{Tree, Empty, Body, Cell, octree}
-use Rattle.bh_model.specs.Moments.{Matter, centre, mass_of, total}
+use Rattle.bh_model.specs.Moments.{Matter, centre, mass_of, matter_by, total}
 use Rattle.bh_model.specs.Pulls.{IsSmall, IsWithin, PullLaw, add_pull, is_far, is_whole, no_pull, pull, pull_from, sum_of_eight, term}
 use Rattle.bh_model.specs.declared.pull.Pull.{Pull}
 use Rattle.bh_model.proofs.Standing.{count_numbers, count_own, is_other, is_own, stands_of_all, total_of_all, total_own_other}
@@ -147,3 +148,20 @@ pull_among law m sites n rule apart within =
 -- a constant of at most 2 ^ 40 times a mass below 2 ^ 40 is below 2 ^ 80
 pub pull_fits : (g mass : ℕ) → g ≤ 2 ^ 40 → mass < 2 ^ 40 → g * mass ≤ 2 ^ 80 - 1
 pull_fits g mass h k = let m : g * mass ≤ 2 ^ 40 * (2 ^ 40 - 1) = mul-le g mass (2 ^ 40) (2 ^ 40 - 1) h (omega arith) in omega arith
+
+-- points of a list stand apart
+pub points_apart : (masses : List ℕ) (sites : List Site) (n : ℕ) → ArePoints sites → n < length sites → StandsApart (matter_by masses sites) (length sites) n
+points_apart masses sites n rule within = record {
+  apart = λ j small differ. squared_distance-positive (site_at sites n) (site_at sites j) (λ same. elim (cases_lt n j) [
+    | inl less ↦ rule.apart n j less small same
+    | inr more ↦ rule.apart j n (omega arith) within (sym same)
+  ]);
+}
+
+-- the pull on one of all points is below 2 ^ 80 along each axis
+pub pull_below : (law : PullLaw) (masses : List ℕ) (sites : List Site) (n : ℕ) → ArePoints sites → n < length sites → law.g ≤ 2 ^ 40
+    → sum_by (λ k. slice_index masses k) (numbers (length sites)) < 2 ^ 40
+    → IsSmall (2 ^ 80 - 1) (length sites - 1) (pull law (matter_by masses sites) n (octree (site_at sites) (numbers (length sites))))
+pull_below law masses sites n rule within constant light =
+    small_more _ _ _ _ _ (pull_fits law.g (sum_by (λ k. slice_index masses k) (numbers (length sites))) constant light) (omega arith)
+    (pull_among law (matter_by masses sites) sites n rule (points_apart masses sites n rule within) within)

@@ -14,6 +14,14 @@ use Rattle.octant_code.proofs.Distances.{gaps_within}
 use Rattle.bh_model.specs.Pulls.{PullLaw, component, term, IsWithin, IsSmall}
 use Rattle.bh_model.specs.declared.pull.Pull.{Pull}
 
+-- a pull of three components and a number of terms
+abbrev pub pull_of : ℤ → ℤ → ℤ → ℕ → Pull
+pull_of ax ay az met = record { ax = ax; ay = ay; az = az; met = met }
+
+-- pulls of equal components and equally many terms are equal
+pub same_pull : (x x' y y' z z' : ℤ) (n n' : ℕ) → x ≡ x' → y ≡ y' → z ≡ z' → n ≡ n' → pull_of x y z n ≡ pull_of x' y' z' n'
+same_pull x x' y y' z z' n n' a b c d = cc
+
 -- the quotient of a number that is not positive is not positive
 quotient-neg : (a d : ℕ) → quotient (neg_ℤ (pos a)) d ≡ neg_ℤ (pos (a / d))
 quotient-neg zero d = rw zero-div

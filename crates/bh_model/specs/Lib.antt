@@ -4,5 +4,4 @@ pub mod Moments
 pub mod Pulls
 pub mod Zones
 pub mod Plans
-pub mod Parts
 pub mod Standing

@@ -50,15 +50,15 @@ centre m tree = centre_of (moment m (λ n. 0) tree)
 abbrev pub no_moment : Moment
 no_moment = record { mass = 0; px = 0; py = 0; pz = 0; bodies = 0; cost = 0 }
 
--- the moment of one body
-abbrev pub moment_of_one : Matter → (ℕ → ℕ) → ℕ → Moment
-moment_of_one m cost n = record {
-  mass = m.mass n;
-  px = m.mass n * (m.site n).x;
-  py = m.mass n * (m.site n).y;
-  pz = m.mass n * (m.site n).z;
+-- the moment of one body, by its mass, its point and its cost
+abbrev pub moment_of_body : ℕ → Site → ℕ → Moment
+moment_of_body mass at cost = record {
+  mass = mass;
+  px = mass * at.x;
+  py = mass * at.y;
+  pz = mass * at.z;
   bodies = 1;
-  cost = cost n;
+  cost = cost;
 }
 
 -- the sum of two moments

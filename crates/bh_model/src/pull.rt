@@ -12,6 +12,39 @@ pub struct Pull {
     pub met: u32,
 }
 
+impl Pull {
+    ghost use Rattle.std.specs.Prelude.{◌≡◌, ◌+◌, ◌<◌, ◌^◌};
+    ghost use Rattle.bh_model.specs.Pulls.{IsSmall, add_pull, no_pull};
+
+    /// The sum of no terms.
+    pub fn none() -> Pull
+        ensures { result ≡ no_pull }
+    {
+        Pull {
+            ax: 0,
+            ay: 0,
+            az: 0,
+            met: 0,
+        }
+    }
+
+    /// The sum of two pulls whose parts are at most 2^120 in size and which have fewer than 2^32 terms.
+    #[inline]
+    pub fn plus(self, other: Pull) -> Pull
+        requires small { IsSmall (2 ^ 120) (2 ^ 32) self }
+        requires other_small { IsSmall (2 ^ 120) (2 ^ 32) other }
+        requires few { self.met + other.met < 2 ^ 32 }
+        ensures { result ≡ add_pull self other }
+    {
+        Pull {
+            ax: self.ax + other.ax,
+            ay: self.ay + other.ay,
+            az: self.az + other.az,
+            met: self.met + other.met,
+        }
+    }
+}
+
 /// The numbers by which bodies pull.
 ///
 /// The opening angle theta is `theta_num / theta_den`, the first from 0 to 65,535 and the second from

@@ -1,7 +1,0 @@
-use Rattle.std.proofs.Common.{◌∙◌}
-use Rattle.octant_code.specs.Points.{site_at}
-use Rattle.bh_model.proofs.PlainZones.{order_within}
-use Rattle.bh_model.proofs.plain_frame.plain_zone.Goals as goal
-
-pub zone_of_order-requires : goal.zone_of_order-requires
-zone_of_order-requires c = order_within (site_at c.args.points.now) c.args.bodies.now c.deref.result.now _ (c.deref.ensures.value ∙ c.in_ok-order.ensures) c.requires.costed

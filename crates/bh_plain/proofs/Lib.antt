@@ -1,0 +1,3 @@
+mod ListZones
+mod ListMoments
+mod ListPulls

@@ -1,0 +1,16 @@
+//! A plain slow program for what the definitions say: the text and the order of the canonical octree
+//! of a list of bodies, moments, zones and pulls. It goes by lists, as the definitions do, and the
+//! tests of the other programs compare with it.
+#![tactic(auto)]
+
+mod moments;
+mod pulls;
+#[cfg(test)]
+mod tests;
+mod trees;
+mod zones;
+
+pub use moments::plain_moment;
+pub use pulls::plain_pull;
+pub use trees::{plain_order, plain_text};
+pub use zones::plain_zone;
