@@ -1,5 +1,5 @@
 -- How large pulls are: sums of terms, and the pull of a tree by its mass and the number of its bodies.
-use Rattle.std.proofs.Common.{◌≡◌, ◌≢◌, ◌≤◌, ◌<◌, ◌+◌, ◌-◌, ◌*◌, ◌^◌, inl, inr, ℕ, ℤ, pos, ◌+ℤ◌, zero, suc, ltb, ◌&&◌, eqb, not, true, false, Bool, refl, ap, ◌∙◌, arith, List, All, length, slice_index, subst, sum_by, sym}
+use Rattle.std.proofs.Common.{◌≡◌, ◌≢◌, ◌≤◌, ◌<◌, ◌+◌, ◌-◌, ◌*◌, ◌^◌, inl, inr, ℕ, ℤ, pos, ◌+ℤ◌, zero, suc, ltb, ◌&&◌, eqb, not, true, false, Bool, refl, ap, ◌∙◌, arith, List, length, slice_index, sum_by, sym}
 use Rattle.std.proofs.Math.Nat.{mul-zero}
 use Rattle.std.proofs.lemmas.Bool.{cases_Bool, cases_lt, false≢true}
 use Rattle.std.proofs.lemmas.Bool.Decides.{eqb_tells, nat_tests}
@@ -8,7 +8,7 @@ use Rattle.std.proofs.lemmas.Nat.{mul-le}
 use borrow.Author.Tests.{ltb-true}
 use Rattle.octant_code.proofs.Distances.{squared_distance-positive}
 use Rattle.octant_code.specs.Points.{site_at, ArePoints}
-use Rattle.octant_code.specs.Space.{Site, IsInCube, key_of, squared_distance}
+use Rattle.octant_code.specs.Space.{Site, key_of, squared_distance}
 use Rattle.bh_model.specs.Bodies.{numbers}
 use Rattle.bh_model.specs.Trees.{Tree, Empty, Body, Cell, octree}
 use Rattle.bh_model.specs.Moments.{Matter, centre, mass_of, matter_by, total}

@@ -7,7 +7,7 @@ use Rattle.std.proofs.lemmas.List.{get_or_append_left, get_or_push, length_push}
 use Rattle.std.proofs.lemmas.List.Sums.{sum_by-cons, sum_by_push}
 use borrow.Author.Tests.{ltb-true}
 use Rattle.octant_code.specs.Points.{site_at, ArePoints}
-use Rattle.octant_code.specs.Space.{Site, IsInCube, octant_of, key_of}
+use Rattle.octant_code.specs.Space.{Site, octant_of, key_of}
 use Rattle.octant_code.proofs.Keys.{octant-small}
 use Rattle.octant_code.proofs.InCube.{same_site}
 use Rattle.bh_model.specs.Bodies.{IsIn, NoneTwice, numbers}

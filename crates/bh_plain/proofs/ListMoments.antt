@@ -5,7 +5,7 @@ use Rattle.std.proofs.Math.Nat.{mul-le-mul_left}
 use Rattle.octant_code.specs.Points.{ArePoints, site_at}
 use Rattle.octant_code.specs.Space.{Site, origin, IsInCube}
 use Rattle.bh_model.specs.Bodies.{IsIn}
-use Rattle.bh_model.specs.Moments.{FitsWords, Matter, add_moment, moment, moment_of_one, no_moment, total}
+use Rattle.bh_model.specs.Moments.{FitsWords, Matter, add_moment, moment, moment_of_body, no_moment, total}
 use Rattle.bh_model.specs.Trees.{Tree, cell_of, in_octant, octree, octree_from}
 use Rattle.bh_model.specs.declared.moment.Moment.{Moment}
 use Rattle.bh_model.proofs.Cells.{member_of_all}
@@ -82,7 +82,7 @@ moment_of_empty m cost level bodies many h = ap (moment m cost) (empty_tree m.si
 
 -- the moment of one body
 pub moment_of_single : (m : Matter) (cost : ℕ → ℕ) (below level : ℕ) (bodies : List ℕ) → length bodies ≡ 1
-    → moment m cost (octree_from m.site below level bodies) ≡ moment_of_one m cost (get_or bodies 0 0)
+    → moment m cost (octree_from m.site below level bodies) ≡ moment_of_body (m.mass (get_or bodies 0 0)) (m.site (get_or bodies 0 0)) (cost (get_or bodies 0 0))
 unfolding total
 moment_of_single m cost below level bodies l = ap (moment m cost) (one_tree m.site below level bodies l)
 

@@ -1,26 +1,25 @@
 -- What the plain program's steps say of a pull, and how large it is.
-use Rattle.std.proofs.Common.{◌≡◌, ◌≢◌, ◌≤◌, ◌<◌, ◌+◌, ◌-◌, ◌*◌, ◌/◌, ◌^◌, ◌⊎◌, ℕ, ℤ, zero, suc, Bool, true, false, eqb, ltb, ◌%◌, List, [], ◌∷◌, All, length, get_or, refl, sym, ap, ◌∙◌, subst, inl, inr, add-one, arith, sum_by}
+use Rattle.std.proofs.Common.{◌≡◌, ◌≢◌, ◌≤◌, ◌<◌, ◌+◌, ◌-◌, ◌*◌, ◌/◌, ◌^◌, ◌⊎◌, ℕ, zero, suc, Bool, true, false, eqb, ltb, ◌%◌, List, [], ◌∷◌, length, get_or, refl, sym, ap, ◌∙◌, subst, inl, add-one, arith, sum_by}
 use Rattle.std.specs.List.{slice_index}
 use Rattle.std.proofs.Math.Nat.{div-zero, mul-le-mul_left}
-use Rattle.std.proofs.lemmas.Bool.{cases_lt, eq-eqb, ne_eqb}
+use Rattle.std.proofs.lemmas.Bool.{eq-eqb, ne_eqb}
 use Rattle.std.proofs.lemmas.Nat.{div_below}
 use Rattle.std.proofs.lemmas.Nat.{one_shl}
-use Rattle.octant_code.specs.Points.{site_at, ArePoints}
+use Rattle.octant_code.specs.Points.{site_at}
 use Rattle.octant_code.specs.Space.{Site, IsInCube, key_of, squared_distance}
 use Rattle.octant_code.proofs.Keys.{key-next-fits}
-use Rattle.octant_code.proofs.Distances.{squared_distance-positive}
 use Rattle.bh_model.specs.Bodies.{IsIn, numbers}
 use Rattle.bh_model.specs.Moments.{FitsWords, Matter, centre, mass_of, matter_by, moment, total}
 use Rattle.bh_plain.specs.Parts.{IsPart}
-use Rattle.bh_model.specs.Pulls.{IsSmall, PullLaw, add_pull, is_far, is_whole, no_pull, pull, pull_from, term}
-use Rattle.bh_model.specs.Trees.{Tree, Body, cell_of, in_octant, octree, octree_from, order}
+use Rattle.bh_model.specs.Pulls.{IsSmall, PullLaw, add_pull, is_far, is_whole, no_pull, pull_from, term}
+use Rattle.bh_model.specs.Trees.{Tree, Body, cell_of, in_octant, octree_from, order}
 use Rattle.bh_model.specs.declared.pull.Pull.{Pull}
 use Rattle.bh_model.proofs.AllBodies.{sum_of_some}
 use Rattle.bh_model.proofs.Cells.{in_octant-once, in_octant-under, member_of_all, placed_of_points}
 use Rattle.bh_model.proofs.Lists.{in_numbers, numbers_once}
 use Rattle.bh_model.proofs.Orders.{from_list}
 use Rattle.bh_plain.proofs.ListMoments.{bodies_in_cube, part_fits, sum_ones, sum_products, total_within}
-use Rattle.bh_model.proofs.PullBounds.{StandsApart, pull_among, pull_fits, pull_small, pull-opened, pull-whole, small_add, small_more, small_none}
+use Rattle.bh_model.proofs.PullBounds.{points_apart, pull_fits, pull_small, pull-opened, pull-whole, small_add, small_more, small_none}
 use Rattle.bh_model.proofs.Splits.{empty_tree, octant_trees, octants_within, one_tree, split_tree}
 use Rattle.bh_model.proofs.Standing.{count_numbers, count_own, is_own, stands_of_list, sum_octants, total_own_other}
 use Rattle.bh_model.proofs.Totals.{sum_upto, sum_upto-le, sum_upto-term, total-order}
@@ -250,3 +249,7 @@ centre_inside sites masses level key bodies p =
       y_fits = quotient_small _ _ (bound (λ n. (m.site n).y) (λ n i. omega (arith, (cube n i).y_fits)));
       z_fits = quotient_small _ _ (bound (λ n. (m.site n).z) (λ n i. omega (arith, (cube n i).z_fits)));
     }
+
+-- a pull of the bodies of a list is small enough to be added
+pub widened : (p : Pull) → IsSmall (2 ^ 80) 65536 p → IsSmall (2 ^ 120) (2 ^ 32) p
+widened p h = small_more _ _ _ _ _ (omega arith) (omega arith) h

@@ -1,7 +1,7 @@
 -- What is known of the bodies of one cube where a plain program divides a list of bodies.
 use Rattle.std.specs.Prelude.{ℕ, ◌^◌, ◌<◌, ◌≡◌, All, List, length, slice_index, sum_by}
 use Rattle.octant_code.specs.Points.{ArePoints, site_at}
-use Rattle.octant_code.specs.Space.{IsInCube, Site, key_of}
+use Rattle.octant_code.specs.Space.{Site, key_of}
 use Rattle.bh_model.specs.Bodies.{IsIn, NoneTwice}
 
 -- the bodies are different ones of a list of points with masses, they lie in the cube of the key of the level, and they are light

@@ -2,7 +2,7 @@
 
 ghost use Rattle.std.specs.Prelude.{◌<◌, ◌↔◌, All, IsTrue};
 
-use bh_model::plain_text;
+use bh_plain::plain_text;
 use bh_outside::{MemorySink, MemorySource};
 use nbody_cli::{Status, serve};
 use scene_file::read_scene;

@@ -5,7 +5,8 @@ ghost use Rattle.std.specs.Prelude.{◌≡◌, ◌<◌, ◌≤◌, ◌^◌, IfOk
 ghost use Rattle.bh_model.specs.Bodies.{numbers};
 ghost use Rattle.scene_file.specs.declared.bodies.Body.{Body};
 
-use bh_model::{Builder, Law, Plan, Pull, plain_pull};
+use bh_model::{Builder, Law, Plan, Pull};
+use bh_plain::plain_pull;
 use frame_core::Engine;
 use octant_code::OutOfMemory;
 use scene_file::{Bodies, read_scene};

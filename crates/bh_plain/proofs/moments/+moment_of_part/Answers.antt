@@ -16,12 +16,12 @@ pub returns-then-is_empty : goal.returns-then-is_empty
 returns-then-is_empty t c =
     let why : (length c.args.bodies.now ≡ 0) ⊎ (c.args.level ≡ 21) =
     elim c.then-is_empty.either [ inl e ↦ inl (list_is_empty (length c.args.bodies.now) c.is_empty.result c.is_empty.ensures e) | inr e ↦ inr e.1 ] in
-    c.no_moment-sum.ensures
+    c.none-sum.ensures
     ∙ sym (moment_of_empty (matter_by c.args.masses.now c.args.points.now) (λ n. get_or c.args.costs.now n 0) c.args.level c.args.bodies.now c.if-bodies-eq1.false why)
 
 pub loop-k-init : goal.loop-k-init
 loop-k-init t c =
-    c.no_moment-sum.ensures ∙ moment_upto-none (octant_moments (matter_by c.args.masses.now c.args.points.now) (λ n. get_or c.args.costs.now n 0) c.args.level c.args.bodies.now)
+    c.none-sum.ensures ∙ moment_upto-none (octant_moments (matter_by c.args.masses.now c.args.points.now) (λ n. get_or c.args.costs.now n 0) c.args.level c.args.bodies.now)
 
 pub moment_of_part-requires : goal.moment_of_part-requires
 moment_of_part-requires t c =
@@ -49,8 +49,8 @@ moment_of_part-requires t c =
       ),
     )
 
-pub add_moments-sum-requires : goal.add_moments-sum-requires
-add_moments-sum-requires t c =
+pub plus-sum-requires : goal.plus-sum-requires
+plus-sum-requires t c =
     let m : Matter = matter_by c.args.masses.now c.args.points.now in
     let cost : ℕ → ℕ = λ n. get_or c.args.costs.now n 0 in
     let level : ℕ = c.args.level in
@@ -70,7 +70,7 @@ loop-k-preserved t c =
     let f : ℕ → Moment = octant_moments m cost level c.args.bodies.now in
     let part : c.deref.result.now ≡ in_octant (site_at c.args.points.now) level c.loop-k.k c.args.bodies.now = c.deref.ensures.value ∙ c.in_ok-part.ensures in
     let one : c.in_ok-more.more ≡ f c.loop-k.k = c.in_ok-more.ensures ∙ ap (λ y. moment m cost (octree_from m.site (21 - (level + 1)) (level + 1) y)) part in
-    c.add_moments-sum.ensures ∙ moment_step f c.loop-k.k c.loop-k.sum c.in_ok-more.more c.loop-k.invariant one
+    c.plus-sum.ensures ∙ moment_step f c.loop-k.k c.loop-k.sum c.in_ok-more.more c.loop-k.invariant one
 
 pub returns : goal.returns
 returns t c =

@@ -1,12 +1,12 @@
 use Rattle.std.proofs.Common.{◌∙◌, sym}
 use Rattle.octant_code.specs.Points.{site_at}
 use Rattle.bh_model.specs.Moments.{matter_by}
-use Rattle.bh_plain.proofs.ListPulls.{apart_same, points_apart, term_same}
-use Rattle.bh_model.proofs.PullBounds.{pull-other, pull-own}
+use Rattle.bh_plain.proofs.ListPulls.{apart_same, term_same}
+use Rattle.bh_model.proofs.PullBounds.{points_apart, pull-other, pull-own}
 use Rattle.bh_plain.proofs.pulls.pull_of_body.Goals as goal
 
 pub returns-then-j-n : goal.returns-then-j-n
-returns-then-j-n c = c.no_pull.ensures ∙ sym (pull-own c.args.law.now (matter_by c.args.masses.now c.args.points.now) c.args.n 0 0 c.args.j c.if-j-n.true)
+returns-then-j-n c = c.none.ensures ∙ sym (pull-own c.args.law.now (matter_by c.args.masses.now c.args.points.now) c.args.n 0 0 c.args.j c.if-j-n.true)
 
 pub plain_term-requires-clause-apart : goal.plain_term-requires-clause-apart
 plain_term-requires-clause-apart c =

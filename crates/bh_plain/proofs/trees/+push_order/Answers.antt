@@ -5,9 +5,9 @@ use Rattle.bh_model.proofs.Lists.{joined}
 use Rattle.bh_model.proofs.Splits.{octant_orders, order_of_single, order_of_empty, order_of_split, joins_more, octants_within, list_is_empty, list_has_some}
 use Rattle.bh_plain.proofs.trees.+push_order.Goals as goal
 
-pub returns-in-Ok : goal.returns-in-Ok
-returns-in-Ok t c =
-    c.in-Ok.ensures.items ∙ ap (λ y. c.args.out.now.items ++ y) (sym (order_of_single (site_at c.args.points.now) (21 - c.args.level) c.args.level c.args.bodies.now c.if-bodies-eq1.true))
+pub returns-then-bodies-eq1 : goal.returns-then-bodies-eq1
+returns-then-bodies-eq1 t c =
+    c.in_ok-push.ensures.items ∙ ap (λ y. c.args.out.now.items ++ y) (sym (order_of_single (site_at c.args.points.now) (21 - c.args.level) c.args.level c.args.bodies.now c.if-bodies-eq1.true))
 
 pub returns-then-is_empty : goal.returns-then-is_empty
 returns-then-is_empty t c =
