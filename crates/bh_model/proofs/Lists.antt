@@ -172,3 +172,19 @@ numbers_once zero = tt
 numbers_once (suc n) =
     none_twice-append (numbers n) (n ∷ []) (numbers_once n) ((λ i. i), tt)
     (λ m i j. elim j [ inl e ↦ let l : m < n = (in_numbers n m).0 i in omega arith | inr e ↦ absurd e ])
+
+-- the front of a list in which no number stands twice is such a list
+pub once_front : (xs ys : List ℕ) → NoneTwice (xs ++ ys) → NoneTwice xs
+once_front [] ys h = tt
+once_front (x ∷ xs) ys h = ((λ i. h.0 (in_left xs ys x i)), once_front xs ys h.1)
+
+-- and so is the rest
+pub once_back : (xs ys : List ℕ) → NoneTwice (xs ++ ys) → NoneTwice ys
+once_back [] ys h = h
+once_back (x ∷ xs) ys h = once_back xs ys h.1
+
+-- no number stands in both
+pub once_apart : (xs ys : List ℕ) → NoneTwice (xs ++ ys) → (n : ℕ) → IsIn xs n → IsIn ys n → ⊥
+once_apart [] ys h n i j = i
+once_apart (x ∷ xs) ys h n (inl e) j = h.0 (in_right xs ys x (subst (IsIn ys) e j))
+once_apart (x ∷ xs) ys h n (inr i) j = once_apart xs ys h.1 n i j

@@ -2,17 +2,7 @@
 use Rattle.std.proofs.Common.{ℕ, List, [], ◌∷◌, ◌++◌, take, drop, inl, inr, subst}
 use Rattle.std.proofs.lemmas.List.{take-append-drop}
 use Rattle.bh_model.specs.Bodies.{IsIn, NoneTwice}
-use Rattle.bh_model.proofs.Lists.{in_left, none_twice-append}
-
--- the front of such a list is one
-pub once_front : (xs ys : List ℕ) → NoneTwice (xs ++ ys) → NoneTwice xs
-once_front [] ys h = tt
-once_front (x ∷ xs) ys h = ((λ i. h.0 (in_left xs ys x i)), once_front xs ys h.1)
-
--- and so is the rest
-pub once_back : (xs ys : List ℕ) → NoneTwice (xs ++ ys) → NoneTwice ys
-once_back [] ys h = h
-once_back (x ∷ xs) ys h = once_back xs ys h.1
+use Rattle.bh_model.proofs.Lists.{none_twice-append, once_back, once_front}
 
 -- the first numbers of such a list, and the others
 pub once_take : (xs : List ℕ) (n : ℕ) → NoneTwice xs → NoneTwice (take n xs)

@@ -11,6 +11,7 @@ use Rattle.bh_model.proofs.Trees.{cell_of-same, octree-none, octree-one, octree-
 use Rattle.bh_model.specs.Bodies.{IsIn, NoneTwice}
 use Rattle.bh_model.specs.Trees.{Body, Empty, cell_of, in_octant, octree, octree_from}
 use Rattle.tree_rule.proofs.Flat.{word_over}
+use Rattle.tree_rule.proofs.Shared.{sharer, two_sharers}
 use Rattle.tree_rule.specs.Flat.{Child, IsShared, IsWordOf, StandsFor, Top}
 use Rattle.tree_rule.specs.Words.{body_word, cell_word, child_place, tree_from, tree_of_named}
 use Rattle.tree_rule.proofs.Names.{named-none, named-body, named-cell}
@@ -109,7 +110,8 @@ one_under site at top base P bodies h apart level key n low high x =
 -- under the key of a cell lie two bodies
 two_under : (site : ℕ → Site) (bodies : List ℕ) (level key : ℕ) → 8 ^ level ≤ key → key < 2 * 8 ^ level → IsShared site (IsIn bodies) key
     → HasTwo (under_key site level key bodies)
-two_under site bodies level key low high f =
+two_under site bodies level key low high shared =
+    let f = two_sharers shared in
     let p : ℕ → Bool = λ n. eqb (key_of (site n) level) key in
     let l : f.level ≡ level = level_of_key (site f.one) key level f.level low high f.one_under in
     let a : key_of (site f.one) level ≡ key = sym (f.one_under ∙ ap (key_of (site f.one)) l) in
@@ -131,7 +133,7 @@ reads site at top base P bodies h apart below level key w sum low high x (OneBod
 reads site at top base P bodies h apart zero level key w sum low high x (ACell c e) =
     let here : IsWordOf at top base P key (cell_word c) = subst (λ (y : ℕ). IsWordOf at top base P key y) e x in
     let f = h.names_cell key c here in
-    let s = h.shared c f.0 in
+    let s = sharer (h.shared c f.0) in
     let l : s.level ≡ level = level_of_key (site s.one) key level s.level low high (sym f.1 ∙ s.one_under) in
     absurd (omega (arith, s.shallow))
 reads site at top base P bodies h apart (suc below) level key w sum low high x (ACell c e) =

@@ -3,13 +3,10 @@ use Rattle.std.proofs.Common.{ℕ, ◌+◌, ◌*◌, ◌<◌, ◌≡◌, ◌≢�
 use Rattle.octant_code.specs.Space.{Site, IsUnder}
 use Rattle.bh_model.proofs.Equal.{same_or_not}
 use Rattle.tree_rule.proofs.Parts.{Among, HasParts, ItOr, Nothing, Only, cell_stands, stands_body, stands_none}
+use Rattle.tree_rule.proofs.Shared.{Pair, shared_more}
 use Rattle.tree_rule.proofs.Walk.{stands_same}
 use Rattle.tree_rule.specs.Flat.{IsShared, StandsFor}
 use Rattle.tree_rule.specs.Words.{body_word, cell_word, child_place, key_place}
-
--- one of two bodies
-abbrev pub Pair : ℕ → ℕ → ℕ → Type 0
-Pair x n m = (m ≡ x) ⊎ (m ≡ n)
 
 -- a set at one child, and nothing at the others
 abbrev pub OnlyAt : ℕ → (ℕ → Type 0) → ℕ → ℕ → Type 0
@@ -33,17 +30,7 @@ link_stands site at c key a Q B e two small part others =
             (stands_same site at (at (child_place c a)) (8 * key + a) Q (OnlyAt a Q k) B (OnlyAt a B k) (λ d. ((λ q. (s, q)), (λ q. q.1))) (λ d. ((λ q. (s, q)), (λ q. q.1))) part)
         | inr o ↦ stands_empty site at (at (child_place c k)) (8 * key + k) (OnlyAt a Q k) (OnlyAt a B k) (others k l o) (λ d q. o q.0) (λ d q. o q.0)
       ];
-      two = record {
-        level = two.level;
-        shallow = two.shallow;
-        one = two.one;
-        other = two.other;
-        one_in = record { part = a; small = small; inside = (refl, two.one_in) };
-        other_in = record { part = a; small = small; inside = (refl, two.other_in) };
-        differ = two.differ;
-        one_under = two.one_under;
-        other_under = two.other_under;
-      };
+      two = shared_more (λ n b. record { part = a; small = small; inside = (refl, b) }) two;
     } in
     stands_same site at (cell_word c) key (ItOr c (OnlyAt a Q)) (λ d. (d ≡ c) ⊎ Q d) (Among (OnlyAt a B)) B
     (λ d. ((λ q. elim q [ inl x ↦ inl x | inr x ↦ inr x.inside.1 ]), (λ q. elim q [ inl x ↦ inl x | inr x ↦ inr (record { part = a; small = small; inside = (refl, x) }) ])))
@@ -87,17 +74,7 @@ fork_stands site at c key a b x n e two sa sb differ ux un wa wb others =
               (λ m q. elim q [ inl z ↦ o z.0 | inr z ↦ p z.0 ])
         ]
       ];
-      two = record {
-        level = two.level;
-        shallow = two.shallow;
-        one = two.one;
-        other = two.other;
-        one_in = member two.one two.one_in;
-        other_in = member two.other two.other_in;
-        differ = two.differ;
-        one_under = two.one_under;
-        other_under = two.other_under;
-      };
+      two = shared_more member two;
     } in
     stands_same site at (cell_word c) key (ItOr c NoCell) (Only c) (Among (AtTwo a x b n)) (Pair x n)
     (λ d. ((λ q. elim q [ inl z ↦ z | inr z ↦ absurd z.inside ]), (λ q. inl q)))

@@ -3,6 +3,7 @@ use Rattle.std.proofs.Common.{ℕ, ◌+◌, ◌*◌, ◌<◌, ◌≤◌, ◌≡�
 use Rattle.std.proofs.lemmas.Bool.{cases_lt}
 use Rattle.octant_code.specs.Space.{Site, octant_of, key_of}
 use Rattle.octant_code.proofs.Keys.{key-zero, key-suc, key-positive, octant-small, same_level, same_parent, same_child, key-deeper}
+use Rattle.tree_rule.proofs.Shared.{sharer}
 use Rattle.tree_rule.specs.Flat.{Child, IsWordOf, StandsAmid, Top}
 use Rattle.tree_rule.specs.Words.{body_word, cell_word, child_place, key_place}
 
@@ -17,7 +18,7 @@ pub below_top : (site : ℕ → Site) (at : ℕ → ℕ) (top base : ℕ) (IsCel
     → (s : Site) (level w : ℕ) → IsWordOf at top base IsCell (key_of s level) w → IsBelowTop base s level
 below_top site at top base IsCell IsBody IsAll h s zero w (Top k v) = record { top_level = 0; above = omega arith; is_base = sym k }
 below_top site at top base IsCell IsBody IsAll h s zero w (Child c k p l e v) =
-    let f = h.shared c p in
+    let f = sharer (h.shared c p) in
     absurd (omega (arith, key-zero s, f.one_under, key-positive (site f.one) f.level))
 below_top site at top base IsCell IsBody IsAll h s (suc level) w (Top k v) = record { top_level = suc level; above = omega arith; is_base = sym k }
 below_top site at top base IsCell IsBody IsAll h s (suc level) w (Child c k p l e v) =
@@ -53,7 +54,7 @@ cell_above site at top base IsCell IsBody IsAll h s (suc level) w upper tl (Chil
 pub child_below_top : (site : ℕ → Site) (at : ℕ → ℕ) (top base : ℕ) (IsCell IsBody IsAll : ℕ → Type 0) → StandsAmid site at top base IsCell IsBody IsAll
     → (c k : ℕ) → IsCell c → 8 * at (key_place c) + k ≡ base → ⊥
 child_below_top site at top base IsCell IsBody IsAll h c k p e =
-    let f = h.shared c p in
+    let f = sharer (h.shared c p) in
     let s : Site = site f.one in
     let up : IsWordOf at top base IsCell (key_of s f.level) (cell_word c) = subst (λ (x : ℕ). IsWordOf at top base IsCell x (cell_word c)) f.one_under (h.cell_named c p) in
     let b = below_top site at top base IsCell IsBody IsAll h s f.level (cell_word c) up in

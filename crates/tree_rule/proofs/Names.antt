@@ -2,7 +2,7 @@
 use Rattle.std.proofs.Common.{ℕ, ◌-◌, ◌/◌, ◌%◌, ◌≡◌, ◌≢◌, refl, sym, ◌∙◌, ap, inl, inr, arith, eqb, true, false}
 use Rattle.std.proofs.lemmas.Bool.{cases_Bool, eqb-true, eq-eqb, eqb-false}
 use Rattle.bh_model.proofs.Equal.{not-eqb}
-use Rattle.tree_rule.specs.Words.{BodyName, CellName, Named, NamesBody, NamesCell, NamesNothing, NoName, body_word, cell_word, named_by}
+use Rattle.tree_rule.specs.Words.{BodyName, CellName, NamesBody, NamesCell, NamesNothing, NoName, body_word, cell_word, named_by, word_of}
 
 -- the word 0 names nothing
 pub named-none : named_by 0 ≡ NoName
@@ -27,14 +27,8 @@ named-cell c =
     let d : cell_word c / 2 - 1 ≡ c = omega arith in
     rw (a, b) (ap CellName d)
 
--- the word of what is named
-word_of : Named → ℕ
-word_of NoName = 0
-word_of (BodyName n) = body_word n
-word_of (CellName c) = cell_word c
-
 -- a word is that of what it names
-word-named : (w : ℕ) → word_of (named_by w) ≡ w
+pub word-named : (w : ℕ) → word_of (named_by w) ≡ w
 unfolding named_by word_of
 word-named w =
     elim (cases_Bool (eqb w 0)) [

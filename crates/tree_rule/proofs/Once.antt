@@ -10,9 +10,9 @@ use Rattle.tree_rule.proofs.Flat.{below_top, cell_above, child_below_top, one_wo
 -- a key has one place
 pub one_place : (site : ℕ → Site) (at : ℕ → ℕ) (first base : ℕ) (IsCell IsBody IsAll : ℕ → Type 0) → StandsAmid site at (at first) base IsCell IsBody IsAll
     → (key p q : ℕ) → IsPlaceOf at first base IsCell key p → IsPlaceOf at first base IsCell key q → p ≡ q
-one_place site at first base IsCell IsBody IsAll h key p q (TopPlace k e low) (TopPlace k' e' low') = e ∙ sym e'
-one_place site at first base IsCell IsBody IsAll h key p q (TopPlace k e low) (ChildPlace d i m b l f) = absurd (child_below_top site at (at first) base IsCell IsBody IsAll h d i m (sym l ∙ k))
-one_place site at first base IsCell IsBody IsAll h key p q (ChildPlace c j o a k e) (TopPlace l f low) = absurd (child_below_top site at (at first) base IsCell IsBody IsAll h c j o (sym k ∙ l))
+one_place site at first base IsCell IsBody IsAll h key p q (TopPlace k e) (TopPlace k' e') = e ∙ sym e'
+one_place site at first base IsCell IsBody IsAll h key p q (TopPlace k e) (ChildPlace d i m b l f) = absurd (child_below_top site at (at first) base IsCell IsBody IsAll h d i m (sym l ∙ k))
+one_place site at first base IsCell IsBody IsAll h key p q (ChildPlace c j o a k e) (TopPlace l f) = absurd (child_below_top site at (at first) base IsCell IsBody IsAll h c j o (sym k ∙ l))
 one_place site at first base IsCell IsBody IsAll h key p q (ChildPlace c j o a k e) (ChildPlace d i m b l f) =
     let both : 8 * at (key_place c) + j ≡ 8 * at (key_place d) + i = sym k ∙ l in
     let same : c ≡ d = h.keys_differ c d o m (same_parent _ _ j i a b both) in

@@ -4,7 +4,7 @@ use Rattle.std.proofs.lemmas.Bool.{cases_lt}
 use Rattle.octant_code.specs.Space.{Site, key_of, IsUnder}
 use Rattle.octant_code.proofs.Keys.{key-positive, key-deeper}
 use Rattle.tree_rule.proofs.Flat.{below_top}
-use Rattle.tree_rule.proofs.Graft.{shared_more}
+use Rattle.tree_rule.proofs.Shared.{shared_more, sharer}
 use Rattle.tree_rule.proofs.Walk.{one_child}
 use Rattle.tree_rule.specs.Flat.{Child, IsShared, IsWordOf, StandsAmid, StandsFor, Top}
 use Rattle.tree_rule.specs.Words.{body_word, cell_word, child_place, key_place}
@@ -83,14 +83,14 @@ of_part site at c key P M h j k w l (Child d i p m e x) = Child d i (inr (record
 
 -- a cell's key is not 0
 cell_key_positive : (site : ℕ → Site) (at : ℕ → ℕ) (c key : ℕ) (P M : ℕ → ℕ → Type 0) → HasParts site at c key P M → 1 ≤ key
-cell_key_positive site at c key P M h = omega (arith, h.two.one_under, key-positive (site h.two.one) h.two.level)
+cell_key_positive site at c key P M h = let f = sharer h.two in omega (arith, f.one_under, key-positive (site f.one) f.level)
 
 -- a cell of a part has another key than the cell above
 part_key_differs : (site : ℕ → Site) (at : ℕ → ℕ) (c key : ℕ) (P M : ℕ → ℕ → Type 0) → HasParts site at c key P M
     → (j d : ℕ) → j < 8 → P j d → at (key_place d) ≡ key → ⊥
 part_key_differs site at c key P M h j d l p e =
     let part = h.part_stands j l in
-    let f = part.shared d p in
+    let f = sharer (part.shared d p) in
     let s : Site = site f.one in
     let x : IsWordOf at (at (child_place c j)) (8 * key + j) (P j) (key_of s f.level) (cell_word d) =
     subst (λ (y : ℕ). IsWordOf at (at (child_place c j)) (8 * key + j) (P j) y (cell_word d)) f.one_under (part.cell_named d p) in
@@ -107,7 +107,7 @@ one_part : (site : ℕ → Site) (at : ℕ → ℕ) (c key : ℕ) (P M : ℕ →
 one_part site at c key P M h i j d e l m p q same =
     let pi = h.part_stands i l in
     let pj = h.part_stands j m in
-    let f = pi.shared d p in
+    let f = sharer (pi.shared d p) in
     let s : Site = site f.one in
     let x : IsWordOf at (at (child_place c i)) (8 * key + i) (P i) (key_of s f.level) (cell_word d) =
     subst (λ (y : ℕ). IsWordOf at (at (child_place c i)) (8 * key + i) (P i) y (cell_word d)) f.one_under (pi.cell_named d p) in
@@ -158,7 +158,7 @@ shares : (site : ℕ → Site) (at : ℕ → ℕ) (c key : ℕ) (P M : ℕ → �
     → (d : ℕ) → ItOr c P d → IsShared site (Among M) (at (key_place d))
 shares site at c key P M h d (inl p) = subst (λ (y : ℕ). IsShared site (Among M) y) (sym (ap (λ y. at (key_place y)) p ∙ h.key_is)) h.two
 shares site at c key P M h d (inr p) =
-    shared_more site (M p.part) (Among M) (at (key_place d)) (λ n b. record { part = p.part; small = p.small; inside = b })
+    shared_more (λ n b. record { part = p.part; small = p.small; inside = b })
     ((h.part_stands p.part p.small).shared d p.inside)
 
 -- a cell over eight parts stands for the bodies of all

@@ -1,117 +1,114 @@
--- The laws over lists of words, cells and bodies.
-use Rattle.std.proofs.Common.{ℕ, ◌<◌, ◌≡◌, ◌≢◌, ◌↔◌, sym, subst, inl, inr, arith, List, ◌∷◌, ◌++◌, length, slice_set, get_or-set_same, get_or-set_other}
+-- The theorems of publication and of taking out, over lists of words, cells and bodies.
+use Rattle.std.proofs.Common.{ℕ, ◌<◌, ◌≡◌, ◌↔◌, sym, subst, inl, inr, arith, List, [], ◌∷◌, ◌++◌, length, slice_set, get_or-set_same, get_or-set_other}
 use Rattle.octant_code.specs.Space.{Site, IsUnder}
-use Rattle.octant_code.specs.Points.{site_at}
-use Rattle.bh_model.specs.Bodies.{IsIn}
-use Rattle.bh_model.proofs.Lists.{in_append, in_left, in_right}
-use Rattle.tree_rule.specs.Words.{at_of, child_place, key_place, body_word, cell_word}
-use Rattle.tree_rule.specs.Flat.{IsWordOf, IsPlaceOf, TopPlace, ChildPlace, Either, ChangedAt, WordsStandAmid, PartStandsAmid}
-use Rattle.tree_rule.proofs.Graft.{graft, key_apart, word_at_place}
-use Rattle.tree_rule.proofs.Walk.{amid_same, amid_moved}
+use Rattle.bh_model.specs.Bodies.{IsIn, NoneTwice}
+use Rattle.bh_model.proofs.Lists.{in_append, in_left, in_right, none_twice-append, once_apart, once_back, once_front}
+use Rattle.tree_rule.specs.Renumbered.{AreRenumbered, IsNumberOf, renumbered}
+use Rattle.tree_rule.specs.Words.{IsReached, at_of, body_word, cell_word}
+use Rattle.tree_rule.specs.Flat.{ChangedAt, Either, StandsAmid, StandsFor}
+use Rattle.tree_rule.specs.Standing.{IsPublished, NamesExactly}
+use Rattle.tree_rule.proofs.Exact.{exact_of_stands, stands_of_exact, word_published}
+use Rattle.tree_rule.proofs.Graft.{graft}
 use Rattle.tree_rule.proofs.Parts.{Nothing, Only, stands_body}
-use Rattle.tree_rule.proofs.Taken.{taken_out}
+use Rattle.tree_rule.proofs.Renumber.{stands_renumbered}
+use Rattle.tree_rule.proofs.Replace.{CellsOutside}
+use Rattle.tree_rule.proofs.Walk.{amid_same, stands_same}
 
 -- a list that is set at one place
 pub changed_at : (words : List ℕ) (place w : ℕ) → place < length words → ChangedAt (at_of words) (at_of (slice_set words place w)) place w
 changed_at words place w l = record { now = get_or-set_same words place w 0 l; others = λ i d. get_or-set_other words place i w 0 d }
 
--- words that stand amid some witnesses stand amid any that have these
-pub witnesses_grown : (sites : List Site) (words cells bodies witnesses all : List ℕ) → WordsStandAmid sites words cells bodies witnesses → ((n : ℕ) → IsIn witnesses n → IsIn all n)
-    → WordsStandAmid sites words cells bodies all
-witnesses_grown sites words cells bodies witnesses all h more =
-    amid_same (site_at sites) (at_of words) (at_of words 0) 1 (IsIn cells) (IsIn cells) (IsIn bodies) (IsIn bodies) (IsIn witnesses) (IsIn all)
-    (λ c. ((λ p. p), (λ p. p))) (λ n. ((λ p. p), (λ p. p))) more h
+-- the same facts with other lists of bodies and witnesses
+pub lists_changed : (site : ℕ → Site) (at : ℕ → ℕ) (top base : ℕ) (P B V : ℕ → Type 0) (cells bodies witnesses : List ℕ)
+    → ((c : ℕ) → P c ↔ IsIn cells c) → ((n : ℕ) → B n ↔ IsIn bodies n) → ((n : ℕ) → V n → IsIn witnesses n)
+    → StandsAmid site at top base P B V → StandsAmid site at top base (IsIn cells) (IsIn bodies) (IsIn witnesses)
+lists_changed site at top base P B V cells bodies witnesses pc bb vw h = amid_same site at top base P (IsIn cells) B (IsIn bodies) V (IsIn witnesses) pc bb vw h
 
--- an empty published word becomes that of a body of its cube
-pub body_published : (sites : List Site) (words cells bodies witnesses : List ℕ) (key place n : ℕ) → WordsStandAmid sites words cells bodies witnesses
-    → IsPlaceOf (at_of words) 0 1 (IsIn cells) key place → place < length words → at_of words place ≡ 0 → IsUnder key (site_at sites n)
-    → WordsStandAmid sites (slice_set words place (body_word n)) cells (n ∷ bodies) witnesses
-body_published sites words cells bodies witnesses key place n h there inside empty under =
-    let after : List ℕ = slice_set words place (body_word n) in
-    amid_same (site_at sites) (at_of after) (at_of after 0) 1 (Either (IsIn cells) Nothing) (IsIn cells) (Either (IsIn bodies) (Only n)) (IsIn (n ∷ bodies))
-    (Either (IsIn witnesses) (IsIn witnesses)) (IsIn witnesses)
-    (λ c. ((λ p. elim p [ inl q ↦ q | inr q ↦ absurd q ]), (λ p. inl p)))
-    (λ m. ((λ p. elim p [ inl q ↦ inr q | inr q ↦ inl q ]), (λ p. elim p [ inl q ↦ inr q | inr q ↦ inl q ])))
-    (λ m p. elim p [ inl q ↦ q | inr q ↦ q ])
-    (graft (site_at sites) (at_of words) (at_of after) 0 1 (IsIn cells) Nothing (IsIn bodies) (Only n) (IsIn witnesses) (IsIn witnesses) key place (body_word n) (record {
-      low = omega arith;
-      before = h;
-      below = stands_body (site_at sites) (at_of after) key n (IsIn witnesses) under;
-      there = there;
-      no_cell = λ c e. omega (arith, empty);
-      body_joins = λ m e. absurd (omega (arith, empty));
-      changed = changed_at words place (body_word n) inside;
-    }))
+-- members of two lists are those of the lists together
+either_in : (xs ys : List ℕ) (m : ℕ) → Either (IsIn ys) (IsIn xs) m ↔ IsIn (xs ++ ys) m
+either_in xs ys m = ((λ p. elim p [ inl q ↦ in_right xs ys m q | inr q ↦ in_left xs ys m q ]), (λ p. elim (in_append xs ys m p) [ inl q ↦ inr q | inr q ↦ inl q ]))
 
--- a published word that names a body is emptied
-pub body_left : (sites : List Site) (words cells bodies kept witnesses : List ℕ) (key place n : ℕ) → WordsStandAmid sites words cells bodies witnesses
-    → IsPlaceOf (at_of words) 0 1 (IsIn cells) key place → place < length words → at_of words place ≡ body_word n → ((m : ℕ) → IsIn kept m ↔ (IsIn bodies m × (m ≢ n)))
-    → WordsStandAmid sites (slice_set words place 0) cells kept witnesses
-body_left sites words cells bodies kept witnesses key place n h there inside named rest =
-    let after : List ℕ = slice_set words place 0 in
-    amid_same (site_at sites) (at_of after) (at_of after 0) 1 (IsIn cells) (IsIn cells) (λ m. IsIn bodies m × (m ≢ n)) (IsIn kept) (IsIn witnesses) (IsIn witnesses)
-    (λ c. ((λ p. p), (λ p. p))) (λ m. ((λ p. (rest m).1 p), (λ p. (rest m).0 p))) (λ m p. p)
-    (taken_out (site_at sites) (at_of words) (at_of after) 0 1 (IsIn cells) (IsIn bodies) (IsIn witnesses) key place n (record {
-      low = omega arith;
-      before = h;
-      there = there;
-      named = named;
-      changed = changed_at words place 0 inside;
-    }))
+-- numbers move from a list to the one before it
+moved_over : (xs ys zs : List ℕ) → NoneTwice (xs ++ (ys ++ zs)) → NoneTwice ((ys ++ xs) ++ zs)
+moved_over xs ys zs h =
+    let back : NoneTwice (ys ++ zs) = once_back xs (ys ++ zs) h in
+    none_twice-append (ys ++ xs) zs
+    (none_twice-append ys xs (once_front ys zs back) (once_front xs (ys ++ zs) h) (λ n i j. once_apart xs (ys ++ zs) h n j (in_left ys zs n i))) (once_back ys zs back)
+    (λ n i j. elim (in_append ys xs n i) [ inl k ↦ once_apart ys zs back n k j | inr k ↦ once_apart xs (ys ++ zs) h n k (in_right ys zs n j) ])
 
--- a place is none of a cell that is not published
-pub place_apart : (at : ℕ → ℕ) (first base : ℕ) (P : ℕ → Type 0) (key place c k : ℕ) → IsPlaceOf at first base P key place → (P c → ⊥) → k < 8 → child_place c k ≢ place
-place_apart at first base P key place c k (TopPlace e f low) new small = λ x. omega arith
-place_apart at first base P key place c k (ChildPlace d j p l e f) new small =
-    λ x. let same : d ≡ c = omega arith in new (subst P same p)
+module _ (site : ℕ → Site) (at at' : ℕ → ℕ) (root base : ℕ) (cells : List ℕ) (key place : ℕ) (there : IsPublished at root base cells key place) where
+  -- an empty published word becomes that of a body of its cube
+  pub body_put : (others bodies : List ℕ) (n : ℕ) → NamesExactly site at root base cells others bodies → at place ≡ 0 → IsUnder key (site n) → ChangedAt at at' place (body_word n)
+      → NamesExactly site at' root base cells others (n ∷ bodies)
+  body_put others bodies n h empty under changed =
+      exact_of_stands site at' root base cells others (n ∷ bodies)
+      (stands_same site at' (at' root) base (Either (IsIn cells) Nothing) (IsIn cells) (Either (IsIn bodies) (Only n)) (IsIn (n ∷ bodies))
+      (λ c. ((λ p. elim p [ inl q ↦ q | inr q ↦ absurd q ]), (λ p. inl p)))
+      (λ m. ((λ p. elim p [ inl q ↦ inr q | inr q ↦ inl q ]), (λ p. elim p [ inl q ↦ inr q | inr q ↦ inl q ])))
+      (graft site at at' root base (IsIn cells) Nothing (IsIn bodies) (Only n) (IsIn bodies) (Only n) key place (body_word n) (record {
+        before = stands_of_exact site at root base cells others bodies h;
+        below = stands_body site at' key n (Only n) under;
+        there = there;
+        no_cell = λ c e. omega (arith, empty);
+        body_joins = λ m e. absurd (omega (arith, empty));
+        changed = changed;
+      }))) h.none_twice
 
--- a published word that names no cell becomes that of a cell that stands for other bodies of its cube, and the body that the word named
-pub cell_published : (sites : List Site) (words cells bodies witnesses : List ℕ) (key place c : ℕ) (new_cells new_bodies : List ℕ) → WordsStandAmid sites words cells bodies witnesses
-    → IsPlaceOf (at_of words) 0 1 (IsIn cells) key place → place < length words → ((d : ℕ) → at_of words place ≡ cell_word d → ⊥)
-    → ((x : ℕ) → at_of words place ≡ body_word x → IsIn new_bodies x) → PartStandsAmid sites words (cell_word c) key new_cells new_bodies witnesses
-    → ((d : ℕ) → IsIn cells d → IsIn new_cells d → ⊥)
-    → WordsStandAmid sites (slice_set words place (cell_word c)) (new_cells ++ cells) (new_bodies ++ bodies) witnesses
-cell_published sites words cells bodies witnesses key place c new_cells new_bodies h there inside no_cell joins part apart =
-    let after : List ℕ = slice_set words place (cell_word c) in
-    let change = changed_at words place (cell_word c) inside in
-    let swap : (xs ys : List ℕ) (m : ℕ) → Either (IsIn ys) (IsIn xs) m ↔ IsIn (xs ++ ys) m = λ xs ys m.
-    ((λ p. elim p [ inl q ↦ in_right xs ys m q | inr q ↦ in_left xs ys m q ]), (λ p. elim (in_append xs ys m p) [ inl q ↦ inr q | inr q ↦ inl q ])) in
-    let moved : PartStandsAmid sites after (cell_word c) key new_cells new_bodies witnesses =
-    amid_moved (site_at sites) (at_of words) (at_of after) (cell_word c) key (IsIn new_cells) (IsIn new_bodies) (IsIn witnesses)
-    (λ d p. change.others (key_place d) (key_apart (at_of words) 0 1 (IsIn cells) key place d there))
-    (λ d k p l. change.others (child_place d k) (place_apart (at_of words) 0 1 (IsIn cells) key place d k there (λ q. apart d q p) l)) part in
-    amid_same (site_at sites) (at_of after) (at_of after 0) 1 (Either (IsIn cells) (IsIn new_cells)) (IsIn (new_cells ++ cells)) (Either (IsIn bodies) (IsIn new_bodies)) (IsIn (new_bodies ++ bodies))
-    (Either (IsIn witnesses) (IsIn witnesses)) (IsIn witnesses)
-    (λ d. swap new_cells cells d) (λ m. swap new_bodies bodies m) (λ m p. elim p [ inl q ↦ q | inr q ↦ q ])
-    (graft (site_at sites) (at_of words) (at_of after) 0 1 (IsIn cells) (IsIn new_cells) (IsIn bodies) (IsIn new_bodies) (IsIn witnesses) (IsIn witnesses) key place (cell_word c) (record {
-      low = omega arith;
-      before = h;
-      below = moved;
-      there = there;
-      no_cell = no_cell;
-      body_joins = joins;
-      changed = change;
-    }))
+  -- a published word that names no cell becomes that of a part, which has the body that the word named
+  pub part_put : (others bodies new_cells new_bodies all : List ℕ) (w : ℕ) → NamesExactly site at root base cells (new_cells ++ others) bodies
+      → ((c : ℕ) → at place ≡ cell_word c → ⊥) → ((x : ℕ) → at place ≡ body_word x → IsIn new_bodies x) → NamesExactly site at' place key new_cells [] new_bodies → ChangedAt at at' place w
+      → ((n : ℕ) → IsIn (new_bodies ++ bodies) n ↔ IsIn all n) → NamesExactly site at' root base (new_cells ++ cells) others all
+  part_put others bodies new_cells new_bodies all w h no_cell joins part changed same =
+      exact_of_stands site at' root base (new_cells ++ cells) others all
+      (stands_same site at' (at' root) base (Either (IsIn cells) (IsIn new_cells)) (IsIn (new_cells ++ cells)) (Either (IsIn bodies) (IsIn new_bodies)) (IsIn all)
+      (either_in new_cells cells)
+      (λ n. ((λ p. (same n).0 ((either_in new_bodies bodies n).0 p)), (λ p. (either_in new_bodies bodies n).1 ((same n).1 p))))
+      (graft site at at' root base (IsIn cells) (IsIn new_cells) (IsIn bodies) (IsIn new_bodies) (IsIn bodies) (IsIn new_bodies) key place w (record {
+        before = stands_of_exact site at root base cells (new_cells ++ others) bodies h;
+        below = subst (λ (y : ℕ). StandsFor site at' y key (IsIn new_cells) (IsIn new_bodies)) changed.now (stands_of_exact site at' place key new_cells [] new_bodies part);
+        there = there;
+        no_cell = no_cell;
+        body_joins = joins;
+        changed = changed;
+      }))) (moved_over cells new_cells others h.none_twice)
 
--- a body that a published word names is one of the list, so it may be left out of a list before
-pub named_already : (sites : List Site) (words cells bodies witnesses more : List ℕ) (key place x : ℕ) → WordsStandAmid sites words cells bodies witnesses
-    → IsPlaceOf (at_of words) 0 1 (IsIn cells) key place → at_of words place ≡ body_word x → (m : ℕ) → IsIn ((x ∷ more) ++ bodies) m ↔ IsIn (more ++ bodies) m
-named_already sites words cells bodies witnesses more key place x h there e m =
-    let word : IsWordOf (at_of words) (at_of words 0) 1 (IsIn cells) key (body_word x) =
-    subst (λ (y : ℕ). IsWordOf (at_of words) (at_of words 0) 1 (IsIn cells) key y) e (word_at_place (at_of words) 0 1 (IsIn cells) key place there) in
-    let member : IsIn bodies x = (h.names_body key x word).0 in (
-      (λ i. elim i [ inl s ↦ subst (λ (y : ℕ). IsIn (more ++ bodies) y) (sym s) (in_right more bodies x member) | inr j ↦ j ]),
-      (λ i. inr i),
-    )
+  -- a body that a published word names is one of the list, so it may be left out of a list before
+  named_already : (others bodies more : List ℕ) (x : ℕ) → NamesExactly site at root base cells others bodies → at place ≡ body_word x
+      → (m : ℕ) → IsIn ((x ∷ more) ++ bodies) m ↔ IsIn (more ++ bodies) m
+  named_already others bodies more x h e m =
+      let f = stands_of_exact site at root base cells others bodies h in
+      let member : IsIn bodies x = (f.names_body key x (word_published at root base cells key place (body_word x) there e)).0 in (
+        (λ i. elim i [ inl s ↦ subst (λ (y : ℕ). IsIn (more ++ bodies) y) (sym s) (in_right more bodies x member) | inr j ↦ j ]),
+        (λ i. inr i),
+      )
 
--- a published word that names a body becomes that of a cell that stands for it and for others
-pub cell_over_body : (sites : List Site) (words cells bodies witnesses : List ℕ) (key place x c : ℕ) (new_cells new_bodies : List ℕ) → WordsStandAmid sites words cells bodies witnesses
-    → IsPlaceOf (at_of words) 0 1 (IsIn cells) key place → place < length words → at_of words place ≡ body_word x
-    → PartStandsAmid sites words (cell_word c) key new_cells (x ∷ new_bodies) witnesses → ((d : ℕ) → IsIn cells d → IsIn new_cells d → ⊥)
-    → WordsStandAmid sites (slice_set words place (cell_word c)) (new_cells ++ cells) (new_bodies ++ bodies) witnesses
-cell_over_body sites words cells bodies witnesses key place x c new_cells new_bodies h there inside e part apart =
-    let after : List ℕ = slice_set words place (cell_word c) in
-    amid_same (site_at sites) (at_of after) (at_of after 0) 1 (IsIn (new_cells ++ cells)) (IsIn (new_cells ++ cells)) (IsIn ((x ∷ new_bodies) ++ bodies)) (IsIn (new_bodies ++ bodies))
-    (IsIn witnesses) (IsIn witnesses)
-    (λ d. ((λ p. p), (λ p. p))) (named_already sites words cells bodies witnesses new_bodies key place x h there e) (λ m p. p)
-    (cell_published sites words cells bodies witnesses key place c new_cells (x ∷ new_bodies) h there inside (λ d f. omega arith) (λ m f. let s : m ≡ x = omega arith in inl s) part apart)
+  -- an empty published word becomes that of a part
+  pub cell_put : (others bodies new_cells new_bodies : List ℕ) (w : ℕ) → NamesExactly site at root base cells (new_cells ++ others) bodies → at place ≡ 0
+      → NamesExactly site at' place key new_cells [] new_bodies → ChangedAt at at' place w → NamesExactly site at' root base (new_cells ++ cells) others (new_bodies ++ bodies)
+  cell_put others bodies new_cells new_bodies w h empty part changed =
+      part_put others bodies new_cells new_bodies (new_bodies ++ bodies) w h (λ c e. omega (arith, empty)) (λ x e. absurd (omega (arith, empty))) part changed (λ n. ((λ i. i), (λ i. i)))
+
+  -- a published word that names a body becomes that of a part with it and others
+  pub cell_put_over : (others bodies new_cells more : List ℕ) (x w : ℕ) → NamesExactly site at root base cells (new_cells ++ others) bodies → at place ≡ body_word x
+      → NamesExactly site at' place key new_cells [] (x ∷ more) → ChangedAt at at' place w → NamesExactly site at' root base (new_cells ++ cells) others (more ++ bodies)
+  cell_put_over others bodies new_cells more x w h e part changed =
+      part_put others bodies new_cells (x ∷ more) (more ++ bodies) w h (λ c f. omega (arith, e)) (λ m f. let s : m ≡ x = omega arith in inl s) part changed
+      (named_already (new_cells ++ others) bodies more x h e)
+
+-- the cells of a list that are kept where those below a cell's word leave
+pub cells_kept : (site : ℕ → Site) (at after : ℕ → ℕ) (root base : ℕ) (cells kept bodies witnesses : List ℕ) (place c : ℕ) → at place ≡ cell_word c
+    → ((d : ℕ) → IsIn kept d ↔ (IsIn cells d × (IsReached at (cell_word c) (cell_word d) → ⊥)))
+    → StandsAmid site after (after root) base (CellsOutside at (at place) (IsIn cells)) (IsIn bodies) (IsIn witnesses) → StandsAmid site after (after root) base (IsIn kept) (IsIn bodies) (IsIn witnesses)
+cells_kept site at after root base cells kept bodies witnesses place c named rest h =
+    lists_changed site after (after root) base (CellsOutside at (cell_word c) (IsIn cells)) (IsIn bodies) (IsIn witnesses) kept bodies witnesses
+    (λ d. ((rest d).1, (rest d).0)) (λ n. ((λ p. p), (λ p. p))) (λ n p. p)
+    (subst (λ (w : ℕ). StandsAmid site after (after root) base (CellsOutside at w (IsIn cells)) (IsIn bodies) (IsIn witnesses)) named h)
+
+-- words in which the cells of a list stand under other numbers
+pub renumbered_lists : (site : ℕ → Site) (at after : ℕ → ℕ) (top after_top base : ℕ) (cells after_cells bodies witnesses : List ℕ) (number : ℕ → ℕ)
+    → StandsAmid site at top base (IsIn cells) (IsIn bodies) (IsIn witnesses) → AreRenumbered at after (IsIn cells) number → after_top ≡ renumbered number top
+    → ((d : ℕ) → IsIn after_cells d ↔ IsNumberOf number (IsIn cells) d) → StandsAmid site after after_top base (IsIn after_cells) (IsIn bodies) (IsIn witnesses)
+renumbered_lists site at after top after_top base cells after_cells bodies witnesses number h r tops same =
+    lists_changed site after after_top base (IsNumberOf number (IsIn cells)) (IsIn bodies) (IsIn witnesses) after_cells bodies witnesses
+    (λ d. ((same d).1, (same d).0)) (λ n. ((λ p. p), (λ p. p))) (λ n p. p)
+    (stands_renumbered site at after top after_top base (IsIn cells) (IsIn bodies) (IsIn witnesses) number h r tops)

@@ -1,13 +1,15 @@
 -- The rule with no points, and the flat facts at points, say the same where each body's point lies in the cube of its word.
-use Rattle.std.proofs.Common.{ℕ, ◌+◌, ◌*◌, ◌^◌, ◌<◌, ◌≤◌, ◌≡◌, zero, suc, refl, sym, ◌∙◌, ap, subst, inl, inr, arith}
+use Rattle.std.proofs.Common.{ℕ, ◌+◌, ◌*◌, ◌^◌, ◌<◌, ◌≤◌, ◌≡◌, refl, sym, ◌∙◌, ap, subst, inl, inr, arith}
 use Rattle.std.proofs.lemmas.Bool.{cases_lt}
-use Rattle.octant_code.specs.Space.{Site, octant_of, key_of, IsUnder}
-use Rattle.octant_code.proofs.Keys.{key-suc, key-low, key-high, pow8-mono, octant-small, same_level, same_parent, same_child}
+use Rattle.octant_code.specs.Space.{Site, key_of, IsUnder}
+use Rattle.octant_code.proofs.Keys.{key-low, key-high, pow8-mono, same_level, same_parent, same_child}
 use Rattle.tree_rule.proofs.Flat.{below_top, cell_above, one_word}
-use Rattle.tree_rule.proofs.Walk.{under_up}
+use Rattle.tree_rule.proofs.Shared.{sharer}
+use Rattle.tree_rule.proofs.Walk.{reached_below, under_up}
+use Rattle.bh_model.proofs.MoreThan.{more_of_two, more_so, two_of_more}
 use Rattle.tree_rule.specs.Flat.{Child, IsShared, IsWordOf, StandsFor, Top}
 use Rattle.tree_rule.specs.Sound.{BelowAs, BodiesUnder, HereAs, IsReachedAs, IsSound}
-use Rattle.tree_rule.specs.Words.{Below, Here, IsReached, body_word, cell_word, child_place, key_place}
+use Rattle.tree_rule.specs.Words.{Below, Here, IsReached, body_word, cell_word, child_place}
 
 -- the key of a word that is read
 pub record HasReadKey (at : ℕ → ℕ) (top base w : ℕ) : Type 0 where
@@ -94,22 +96,17 @@ level_small s key level h e = elim (cases_lt level 21) [
 shares_of : (site : ℕ → Site) (at : ℕ → ℕ) (top base key c : ℕ) → 1 ≤ base → IsSound at top base → BodiesUnder site at top base → IsReachedAs at top base key (cell_word c)
     → IsShared site (IsBodyRead at top) key
 shares_of site at top base key c pos h under r =
-    let two = h.two_bodies key c r in
-    let a = read_below at top base key (cell_word c) (body_word two.one) pos r two.one_read in
-    let b = read_below at top base key (cell_word c) (body_word two.other) pos r two.other_read in
+    let two = two_of_more (h.more_bodies key c r) in
+    let a = read_below at top base key (cell_word c) (body_word two.one) pos r two.one_is in
+    let b = read_below at top base key (cell_word c) (body_word two.other) pos r two.other_is in
     let ua : IsUnder key (site two.one) = a.in_cube (site two.one) (under a.deeper two.one a.read) in
     let ub : IsUnder key (site two.other) = b.in_cube (site two.other) (under b.deeper two.other b.read) in
     let same : ub.0 ≡ ua.0 = same_level (site two.other) (site two.one) ub.0 ua.0 (sym ub.2 ∙ ua.2) in
     record {
       level = ua.0;
       shallow = level_small (site two.one) key ua.0 (h.shallow key c r) ua.2;
-      one = two.one;
-      other = two.other;
-      one_in = forget at top base a.deeper (body_word two.one) a.read;
-      other_in = forget at top base b.deeper (body_word two.other) b.read;
-      differ = two.differ;
-      one_under = ua.2;
-      other_under = ub.2 ∙ ap (key_of (site two.other)) same;
+      sharers = more_of_two two.one two.other (forget at top base a.deeper (body_word two.one) a.read, ua.2)
+          (forget at top base b.deeper (body_word two.other) b.read, ub.2 ∙ ap (key_of (site two.other)) same) two.differ;
     }
 
 -- the rule, with each body's point in the cube of its word, gives the flat facts
@@ -148,36 +145,6 @@ named_of_read site at top base P B h _ _ (BelowAs c k parent key w r l f e) =
     let g = h.names_cell parent c (named_of_read site at top base P B h parent (cell_word c) r) in
     Child c k g.0 l (f ∙ ap (λ y. 8 * y + k) (sym g.1)) e
 
--- one step of the way down to a point's word
-reached_step : (site : ℕ → Site) (at : ℕ → ℕ) (top base : ℕ) (P B : ℕ → Type 0) → StandsFor site at top base P B
-    → (s : Site) (level w upper v : ℕ) → IsWordOf at top base P (key_of s (suc level)) w → IsWordOf at top base P (key_of s upper) v → upper ≤ level
-    → ((c : ℕ) → IsWordOf at top base P (key_of s level) (cell_word c) → IsReached at v (cell_word c)) → IsReached at v w
-reached_step site at top base P B h s level w upper v (Top k e) y le rest =
-    let t = below_top site at top base P B B h s upper v y in
-    let same : suc level ≡ t.top_level = same_level s s (suc level) t.top_level (k ∙ t.is_base) in
-    absurd (omega (arith, t.above))
-reached_step site at top base P B h s level w upper v (Child c k p l e f) y le rest =
-    let same : at (key_place c) ≡ key_of s level = same_parent _ _ k (octant_of s level) l (octant-small s level) (sym e ∙ key-suc s level) in
-    let up : IsWordOf at top base P (key_of s level) (cell_word c) = subst (λ (z : ℕ). IsWordOf at top base P z (cell_word c)) same (h.cell_named c p) in
-    Below c k w (rest c up) l f
-
--- a point's word is read below each of its words above
-reached_below : (site : ℕ → Site) (at : ℕ → ℕ) (top base : ℕ) (P B : ℕ → Type 0) → StandsFor site at top base P B
-    → (s : Site) (level w upper v : ℕ) → IsWordOf at top base P (key_of s level) w → IsWordOf at top base P (key_of s upper) v → upper ≤ level → IsReached at v w
-reached_below site at top base P B h s zero w upper v x y le =
-    let z : upper ≡ 0 = omega arith in
-    let y' : IsWordOf at top base P (key_of s 0) v = subst (λ (u : ℕ). IsWordOf at top base P (key_of s u) v) z y in
-    Here w (one_word site at top base P B B h (key_of s 0) w v x y')
-reached_below site at top base P B h s (suc level) w upper v x y le =
-    elim (cases_lt upper (suc level)) [
-      | inl r ↦ reached_step site at top base P B h s level w upper v x y (omega arith)
-          (λ c up. reached_below site at top base P B h s level (cell_word c) upper v up y (omega arith))
-      | inr r ↦
-          let z : upper ≡ suc level = omega arith in
-          let y' : IsWordOf at top base P (key_of s (suc level)) v = subst (λ (u : ℕ). IsWordOf at top base P (key_of s u) v) z y in
-          Here w (one_word site at top base P B B h (key_of s (suc level)) w v x y')
-    ]
-
 -- no body is named in two cubes
 once : (site : ℕ → Site) (at : ℕ → ℕ) (top base : ℕ) (P B : ℕ → Type 0) → StandsFor site at top base P B
     → (s : Site) (i j w n : ℕ) → i < j → IsWordOf at top base P (key_of s i) (body_word n) → IsWordOf at top base P (key_of s j) w → ⊥
@@ -195,7 +162,7 @@ body_below site at top base P B h key c n level x b e =
     let x' : IsWordOf at top base P (key_of (site n) level) (cell_word c) = subst (λ (z : ℕ). IsWordOf at top base P z (cell_word c)) e x in
     elim (cases_lt f.level level) [
       | inl l ↦ absurd (once site at top base P B h (site n) f.level level (cell_word c) n l f.named x')
-      | inr l ↦ reached_below site at top base P B h (site n) f.level (body_word n) level (cell_word c) f.named x' l
+      | inr l ↦ reached_below site at top base P B B h (site n) f.level (body_word n) level (cell_word c) f.named x' l
     ]
 
 -- the flat facts give the rule, and that each body's point lies in the cube of its word
@@ -204,7 +171,7 @@ sound_of_stands site at top base P B h = record {
   keys_follow = λ key c r. (h.names_cell key c (named_of_read site at top base P B h key (cell_word c) r)).1;
   shallow = λ key c r.
       let f = h.names_cell key c (named_of_read site at top base P B h key (cell_word c) r) in
-      let t = h.shared c f.0 in
+      let t = sharer (h.shared c f.0) in
       omega (arith, f.1, t.one_under, key-high (site t.one) t.level, pow8-mono t.level 20 t.shallow);
   bodies_once = λ key key' n r q.
       let x = named_of_read site at top base P B h key (body_word n) r in
@@ -220,17 +187,11 @@ sound_of_stands site at top base P B h = record {
           | inr l ↦ let same : u.0 ≡ v.0 = omega arith in u.2 ∙ ap (key_of (site n)) same ∙ sym v.2
         ]
       ];
-  two_bodies = λ key c r.
+  more_bodies = λ key c r.
       let x = named_of_read site at top base P B h key (cell_word c) r in
       let f = h.names_cell key c x in
-      let t : IsShared site B key = subst (λ (y : ℕ). IsShared site B y) f.1 (h.shared c f.0) in
-      record {
-        one = t.one;
-        other = t.other;
-        differ = t.differ;
-        one_read = body_below site at top base P B h key c t.one t.level x t.one_in t.one_under;
-        other_read = body_below site at top base P B h key c t.other t.level x t.other_in t.other_under;
-      };
+      let t = h.shared c f.0 in
+      more_so (λ n b. body_below site at top base P B h key c n t.level x b.0 (sym f.1 ∙ b.1)) t.sharers;
 }
 
 -- the flat facts have each body's point in the cube of its word
@@ -249,7 +210,7 @@ sound_below at top base key v h r = record {
   keys_follow = λ deeper c q. h.keys_follow deeper c (read_on at top base key v r deeper (cell_word c) q);
   shallow = λ deeper c q. h.shallow deeper c (read_on at top base key v r deeper (cell_word c) q);
   bodies_once = λ deeper deeper' n q s. h.bodies_once deeper deeper' n (read_on at top base key v r deeper (body_word n) q) (read_on at top base key v r deeper' (body_word n) s);
-  two_bodies = λ deeper c q. h.two_bodies deeper c (read_on at top base key v r deeper (cell_word c) q);
+  more_bodies = λ deeper c q. h.more_bodies deeper c (read_on at top base key v r deeper (cell_word c) q);
 }
 
 -- the bodies below a word that is read have their points in the cubes of their words

@@ -1,17 +1,19 @@
 -- What the test of a table of words tries is that the words name exactly, and lemmas for its loops.
-use Rattle.std.proofs.Common.{ℕ, ◌+◌, ◌*◌, ◌^◌, ◌<◌, ◌≤◌, ◌≡◌, ◌↔◌, zero, suc, refl, sym, ◌∙◌, ap, subst, inl, inr, arith, add-one, List, [], ◌∷◌, length, get_or, drop, take, Bool, true, false, IsTrue, eqb}
+use Rattle.std.proofs.Common.{ℕ, ◌+◌, ◌*◌, ◌^◌, ◌<◌, ◌≤◌, ◌≡◌, ◌↔◌, zero, suc, refl, sym, ◌∙◌, ap, subst, inl, inr, arith, add-one, List, [], ◌∷◌, append-nil, All, length, get_or, drop, take, Bool, true, false, IsTrue, eqb}
 use Rattle.std.proofs.lemmas.Bool.{cases_lt, eq-eqb, eqb-true, false≢true}
 use Rattle.octant_code.specs.Space.{Site, IsKey, IsUnder}
 use Rattle.std.proofs.Math.Nat.{pow-suc}
 use Rattle.octant_code.proofs.Keys.{pow8-mono}
 use Rattle.bh_model.proofs.Equal.{same_or_not}
-use Rattle.bh_model.specs.Bodies.{IsIn, NoneTwice, HasTwoUnder}
+use Rattle.bh_model.specs.Bodies.{IsIn, NoneTwice, HasMoreUnder}
 use Rattle.tree_rule.specs.Words.{body_word, cell_word, child_place, key_place}
-use Rattle.tree_rule.specs.Flat.{Child, Top}
-use Rattle.tree_rule.specs.Standing.{ChildWord, IsCellKey, IsPublished, NamesExactly, RootWord}
-use Rattle.tree_rule.specs.Tested.{AreBelow, HasOtherUnder, IsChildWord, IsNamedSomewhere, IsRightCell, NamesRightly}
+use Rattle.tree_rule.specs.Flat.{Child, ChildPlace, IsWordOf, Top, TopPlace}
+use Rattle.tree_rule.specs.Standing.{IsCellKey, IsPublished, NamesExactly}
+use Rattle.tree_rule.specs.Tested.{HasOtherUnder, IsChildWord, IsNamedSomewhere, IsRightCell, NamesBodyUnder, NamesCellOf, NamesRightly}
 use Rattle.tree_rule.proofs.Names.{names_body, names_cell, word_of_body, word_of_cell}
-use Rattle.tree_rule.proofs.Exact.{IsWord, Stands, exact_of_stands, shared_of_two, word_published}
+use Rattle.tree_rule.proofs.Canonical.{ACell, NoBody, OneBody, WordIs, word_is}
+use Rattle.tree_rule.proofs.Exact.{Stands, exact_of_stands, shared_of_more, word_published}
+use Rattle.bh_model.proofs.MoreThan.{more_of_two, two_of_more}
 
 -- the parts of the test together
 pub record AllRight (site : ℕ → Site) (at : ℕ → ℕ) (cells bodies : List ℕ) : Type 0 where
@@ -20,9 +22,23 @@ pub record AllRight (site : ℕ → Site) (at : ℕ → ℕ) (cells bodies : Lis
   pub cells_right : (c : ℕ) → IsIn cells c → IsRightCell site at cells bodies c
   pub bodies_named : (n : ℕ) → IsIn bodies n → IsNamedSomewhere at cells (body_word n)
 
+-- what names rightly and is a body's word names one of the list, which lies under the key
+pub right_body : (site : ℕ → Site) (at : ℕ → ℕ) (cells bodies : List ℕ) (key w n : ℕ) → NamesRightly site at cells bodies key w → w ≡ body_word n → IsIn bodies n × IsUnder key (site n)
+right_body site at cells bodies key w n (inl z) e = absurd (omega arith)
+right_body site at cells bodies key w n (inr (inl b)) e =
+    let same : b.0 ≡ n = omega (arith, b.1) in subst (λ (m : ℕ). IsIn bodies m × IsUnder key (site m)) same (b.2, b.3)
+right_body site at cells bodies key w n (inr (inr c)) e = absurd (omega (arith, c.1))
+
+-- what names rightly and is a cell's word names one of the list, which has the key
+pub right_cell_word : (site : ℕ → Site) (at : ℕ → ℕ) (cells bodies : List ℕ) (key w c : ℕ) → NamesRightly site at cells bodies key w → w ≡ cell_word c → IsIn cells c × (at (key_place c) ≡ key)
+right_cell_word site at cells bodies key w c (inl z) e = absurd (omega arith)
+right_cell_word site at cells bodies key w c (inr (inl b)) e = absurd (omega (arith, b.1))
+right_cell_word site at cells bodies key w c (inr (inr d)) e =
+    let same : d.0 ≡ c = omega (arith, d.1) in subst (λ (m : ℕ). IsIn cells m × (at (key_place m) ≡ key)) same (d.2, d.3)
+
 -- each word of a key names rightly
 pub word_right : (site : ℕ → Site) (at : ℕ → ℕ) (cells bodies : List ℕ) → AllRight site at cells bodies
-    → (key w : ℕ) → IsWord at cells key w → NamesRightly site at cells bodies key w
+    → (key w : ℕ) → IsWordOf at (at 0) 1 (IsIn cells) key w → NamesRightly site at cells bodies key w
 word_right site at cells bodies r key w (Top k e) =
     subst (λ (x : ℕ). NamesRightly site at cells bodies x w) (sym k) (subst (λ (y : ℕ). NamesRightly site at cells bodies 1 y) (sym e) r.root)
 word_right site at cells bodies r key w (Child c j i l k e) =
@@ -30,59 +46,71 @@ word_right site at cells bodies r key w (Child c j i l k e) =
     (subst (λ (y : ℕ). NamesRightly site at cells bodies (8 * at (key_place c) + j) y) (sym e) ((r.cells_right c i).children j l))
 
 -- where all parts are right, the words stand for the bodies
-pub stands_of_right : (site : ℕ → Site) (at : ℕ → ℕ) (cells bodies : List ℕ) → AllRight site at cells bodies → Stands site at cells bodies
-stands_of_right site at cells bodies r = record {
-  keys_differ = λ c d p q e. (r.cells_right c p).own_key d q e;
-  cell_named = λ c p.
-      let o = (r.cells_right c p).named in
-      let x = word_published at cells o.place o.key (cell_word c) o.published o.named in
-      subst (λ (y : ℕ). IsWord at cells y (cell_word c)) (sym ((word_right site at cells bodies r o.key (cell_word c) x).cell c refl).1) x;
-  names_cell = λ key c x. (word_right site at cells bodies r key (cell_word c) x).cell c refl;
-  body_named = λ n b.
-      let o = r.bodies_named n b in
-      let x = word_published at cells o.place o.key (body_word n) o.published o.named in
-      let f = (word_right site at cells bodies r o.key (body_word n) x).body n refl in
-      record {
-        level = f.1.0;
-        shallow = f.1.1;
-        named = subst (λ (y : ℕ). IsWord at cells y (body_word n)) f.1.2 x;
-      };
-  names_body = λ key n x. (word_right site at cells bodies r key (body_word n) x).body n refl;
-  shared = λ c p. let f = r.cells_right c p in shared_of_two site bodies (at (key_place c)) f.level f.two_under;
-}
+pub stands_of_right : (site : ℕ → Site) (at : ℕ → ℕ) (cells bodies : List ℕ) → AllRight site at cells bodies → Stands site at 0 1 cells bodies
+stands_of_right site at cells bodies r =
+    let cell : (key c : ℕ) → IsWordOf at (at 0) 1 (IsIn cells) key (cell_word c) → IsIn cells c × (at (key_place c) ≡ key) =
+    λ key c x. right_cell_word site at cells bodies key (cell_word c) c (word_right site at cells bodies r key (cell_word c) x) refl in
+    let body : (key n : ℕ) → IsWordOf at (at 0) 1 (IsIn cells) key (body_word n) → IsIn bodies n × IsUnder key (site n) =
+    λ key n x. right_body site at cells bodies key (body_word n) n (word_right site at cells bodies r key (body_word n) x) refl in
+    record {
+      keys_differ = λ c d p q e. (r.cells_right c p).own_key d q e;
+      cell_named = λ c p.
+          let o = (r.cells_right c p).named in
+          let x = word_published at 0 1 cells o.key o.place (cell_word c) o.published o.named in
+          subst (λ (y : ℕ). IsWordOf at (at 0) 1 (IsIn cells) y (cell_word c)) (sym (cell o.key c x).1) x;
+      names_cell = cell;
+      body_named = λ n b.
+          let o = r.bodies_named n b in
+          let x = word_published at 0 1 cells o.key o.place (body_word n) o.published o.named in
+          let f = body o.key n x in
+          record {
+            level = f.1.0;
+            shallow = f.1.1;
+            named = subst (λ (y : ℕ). IsWordOf at (at 0) 1 (IsIn cells) y (body_word n)) f.1.2 x;
+          };
+      names_body = body;
+      shared = λ c p. let f = r.cells_right c p in shared_of_more site bodies (at (key_place c)) f.level f.more_under;
+    }
 
 -- where all parts are right, the words name exactly
-pub exact_of_right : (site : ℕ → Site) (at : ℕ → ℕ) (cells bodies : List ℕ) → AllRight site at cells bodies → NamesExactly site at cells bodies
-exact_of_right site at cells bodies r = exact_of_stands site at cells bodies (stands_of_right site at cells bodies r) r.none_twice
+pub exact_of_right : (site : ℕ → Site) (at : ℕ → ℕ) (cells bodies : List ℕ) → AllRight site at cells bodies → NamesExactly site at 0 1 cells [] bodies
+exact_of_right site at cells bodies r = exact_of_stands site at 0 1 cells [] bodies (stands_of_right site at cells bodies r) (subst NoneTwice (sym (append-nil cells)) r.none_twice)
+
+-- a word that names what is right names rightly
+names_right : (site : ℕ → Site) (at : ℕ → ℕ) (cells bodies : List ℕ) → NamesExactly site at 0 1 cells [] bodies
+    → (key place : ℕ) → IsPublished at 0 1 cells key place → WordIs (at place) → NamesRightly site at cells bodies key (at place)
+names_right site at cells bodies h key place p (NoBody e) = inl e
+names_right site at cells bodies h key place p (OneBody n e) = let f = h.names_body key place n p (names_body (at place) n e) in inr (inl (n, e, f.0, f.1))
+names_right site at cells bodies h key place p (ACell c e) = let f = h.names_cell key place c p (names_cell (at place) c e) in inr (inr (c, e, f.0, f.1))
 
 -- a published word names rightly where the words name exactly
-pub right_word : (site : ℕ → Site) (at : ℕ → ℕ) (cells bodies : List ℕ) → NamesExactly site at cells bodies
-    → (place key : ℕ) → IsPublished at cells place key → NamesRightly site at cells bodies key (at place)
-right_word site at cells bodies h place key p = record { cell = λ c e. h.names_cell place key c p (names_cell (at place) c e); body = λ n e. h.names_body place key n p (names_body (at place) n e) }
+pub right_word : (site : ℕ → Site) (at : ℕ → ℕ) (cells bodies : List ℕ) → NamesExactly site at 0 1 cells [] bodies
+    → (key place : ℕ) → IsPublished at 0 1 cells key place → NamesRightly site at cells bodies key (at place)
+right_word site at cells bodies h key place p = names_right site at cells bodies h key place p (word_is (at place))
 
 -- each cell is right where the words name exactly
-pub right_cell : (site : ℕ → Site) (at : ℕ → ℕ) (cells bodies : List ℕ) → NamesExactly site at cells bodies → (c : ℕ) → IsIn cells c → IsRightCell site at cells bodies c
+pub right_cell : (site : ℕ → Site) (at : ℕ → ℕ) (cells bodies : List ℕ) → NamesExactly site at 0 1 cells [] bodies → (c : ℕ) → IsIn cells c → IsRightCell site at cells bodies c
 right_cell site at cells bodies h c p =
     let o = h.cell_once c p in
     record {
       level = h.levels c p;
       own_key = λ d q e. h.keys_differ c d p q e;
-      two_under = h.two_under c p;
-      named = record { place = o.place; key = o.key; published = o.published; named = word_of_cell (at o.place) c o.named };
-      children = λ k l. right_word site at cells bodies h (child_place c k) (8 * at (key_place c) + k) (ChildWord c k p l refl refl);
+      more_under = h.more_under c p;
+      named = record { key = o.key; place = o.place; published = o.published; named = word_of_cell (at o.place) c o.named };
+      children = λ k l. right_word site at cells bodies h (8 * at (key_place c) + k) (child_place c k) (ChildPlace c k p l refl refl);
     }
 
 -- each body is named where the words name exactly
-pub right_body : (site : ℕ → Site) (at : ℕ → ℕ) (cells bodies : List ℕ) → NamesExactly site at cells bodies → (n : ℕ) → IsIn bodies n → IsNamedSomewhere at cells (body_word n)
-right_body site at cells bodies h n b = let o = h.body_once n b in record { place = o.place; key = o.key; published = o.published; named = word_of_body (at o.place) n o.named }
+pub body_is_named : (site : ℕ → Site) (at : ℕ → ℕ) (cells bodies : List ℕ) → NamesExactly site at 0 1 cells [] bodies → (n : ℕ) → IsIn bodies n → IsNamedSomewhere at cells (body_word n)
+body_is_named site at cells bodies h n b = let o = h.body_once n b in record { key = o.key; place = o.place; published = o.published; named = word_of_body (at o.place) n o.named }
 
 -- where the words name exactly, all parts are right
-pub right_of_exact : (site : ℕ → Site) (at : ℕ → ℕ) (cells bodies : List ℕ) → NamesExactly site at cells bodies → AllRight site at cells bodies
+pub right_of_exact : (site : ℕ → Site) (at : ℕ → ℕ) (cells bodies : List ℕ) → NamesExactly site at 0 1 cells [] bodies → AllRight site at cells bodies
 right_of_exact site at cells bodies h = record {
-  none_twice = h.none_twice;
-  root = right_word site at cells bodies h 0 1 (RootWord refl refl);
+  none_twice = subst NoneTwice (append-nil cells) h.none_twice;
+  root = right_word site at cells bodies h 1 0 (TopPlace refl refl);
   cells_right = right_cell site at cells bodies h;
-  bodies_named = right_body site at cells bodies h;
+  bodies_named = body_is_named site at cells bodies h;
 }
 
 -- the number at a place of a list is a member
@@ -132,31 +160,33 @@ once_of_later xs h = once_of_rest xs (λ k l i. h k l (subst (λ (m : ℕ). IsIn
 pub not_once : (xs : List ℕ) (k : ℕ) → k < length xs → IsIn (drop (k + 1) xs) (get_or xs k 0) → NoneTwice xs → ⊥
 not_once xs k l i d = rest_once xs k d l (subst (λ (m : ℕ). IsIn (drop m xs) (get_or xs k 0)) (add-one k) i)
 
--- where one body lies under a key, two do where another does
-pub two_of_other : (site : ℕ → Site) (bodies : List ℕ) (key x : ℕ) → IsIn bodies x → IsUnder key (site x) → HasOtherUnder site bodies key x → HasTwoUnder site bodies key
-two_of_other site bodies key x i u h = record { one = x; other = h.other; one_in = i; other_in = h.other_in; differ = h.differ; one_under = u; other_under = h.other_under }
+-- where one body lies under a key, more than a leaf holds do where another does
+pub more_of_other : (site : ℕ → Site) (bodies : List ℕ) (key x : ℕ) → IsIn bodies x → IsUnder key (site x) → HasOtherUnder site bodies key x → HasMoreUnder site bodies key
+more_of_other site bodies key x i u h = more_of_two x h.other (i, u) (h.other_in, h.other_under) h.differ
 
 -- of two bodies under a key one is another than a given one
-pub other_of_two : (site : ℕ → Site) (bodies : List ℕ) (key x : ℕ) → HasTwoUnder site bodies key → HasOtherUnder site bodies key x
-other_of_two site bodies key x t = elim (same_or_not x t.one) [
-  | inl e ↦ record { other = t.other; other_in = t.other_in; differ = λ f. t.differ (sym e ∙ f); other_under = t.other_under }
-  | inr d ↦ record { other = t.one; other_in = t.one_in; differ = d; other_under = t.one_under }
-]
+pub other_of_more : (site : ℕ → Site) (bodies : List ℕ) (key x : ℕ) → HasMoreUnder site bodies key → HasOtherUnder site bodies key x
+other_of_more site bodies key x more =
+    let t = two_of_more more in
+    elim (same_or_not x t.one) [
+      | inl e ↦ record { other = t.other; other_in = t.other_is.0; differ = λ f. t.differ (sym e ∙ f); other_under = t.other_is.1 }
+      | inr d ↦ record { other = t.one; other_in = t.one_is.0; differ = d; other_under = t.one_is.1 }
+    ]
 
 -- a child word of a published cell is published
 pub named_by_child : (at : ℕ → ℕ) (cells : List ℕ) (c w : ℕ) → IsIn cells c → IsChildWord at c w → IsNamedSomewhere at cells w
 named_by_child at cells c w i h = record {
-  place = child_place c h.child;
   key = 8 * at (key_place c) + h.child;
-  published = ChildWord c h.child i h.small refl refl;
+  place = child_place c h.child;
+  published = ChildPlace c h.child i h.small refl refl;
   named = h.named;
 }
 
 -- a word is not published that is neither the root word nor a child word of a cell of the list
-pub not_published : (at : ℕ → ℕ) (cells : List ℕ) (w place key : ℕ) → (at 0 ≡ w → ⊥) → ((k : ℕ) → k < length cells → IsChildWord at (get_or cells k 0) w → ⊥)
-    → IsPublished at cells place key → at place ≡ w → ⊥
-not_published at cells w place key r h (RootWord p k) e = r (ap at (sym p) ∙ e)
-not_published at cells w place key r h (ChildWord c j i l p k) e =
+pub not_published : (at : ℕ → ℕ) (cells : List ℕ) (w key place : ℕ) → (at 0 ≡ w → ⊥) → ((k : ℕ) → k < length cells → IsChildWord at (get_or cells k 0) w → ⊥)
+    → IsPublished at 0 1 cells key place → at place ≡ w → ⊥
+not_published at cells w key place r h (TopPlace k p) e = r (ap at (sym p) ∙ e)
+not_published at cells w key place r h (ChildPlace c j i l k p) e =
     each_member (λ y. IsChildWord at y w → ⊥) cells h c i (record { child = j; small = l; named = ap at (sym p) ∙ e })
 
 -- the keys of a cell's children are those of cubes
@@ -180,18 +210,18 @@ pub under_same : (key : ℕ) (s t : Site) → s ≡ t → IsUnder key s → IsUn
 under_same key s t e u = subst (λ (x : Site). IsUnder key x) e u
 
 -- the answer about the key of a cell that was found
-pub cell_found : (at : ℕ → ℕ) (cells : List ℕ) (c n v key : ℕ) → c ≡ n → IsIn cells c → v ≡ at (key_place c) → IsTrue (eqb v key) ↔ (IsIn cells n × (at (key_place n) ≡ key))
-cell_found at cells c n v key e i f = (
-  (λ t. (subst (IsIn cells) e i, subst (λ (x : ℕ). at (key_place x) ≡ key) e (sym f ∙ eqb-true v key t))),
-  (λ q. eq-eqb v key (f ∙ subst (λ (x : ℕ). at (key_place x) ≡ key) (sym e) q.1)),
+pub cell_found : (at : ℕ → ℕ) (cells : List ℕ) (c w v key : ℕ) → w ≡ cell_word c → IsIn cells c → v ≡ at (key_place c) → IsTrue (eqb v key) ↔ NamesCellOf at cells key w
+cell_found at cells c w v key e i f = (
+  (λ t. (c, e, i, sym f ∙ eqb-true v key t)),
+  (λ q. let same : q.0 ≡ c = omega (arith, q.1, e) in eq-eqb v key (f ∙ subst (λ (x : ℕ). at (key_place x) ≡ key) same q.3)),
 )
 
 -- the answer about the point of a body that was found
-pub body_found : (b : Bool) (site : ℕ → Site) (bodies : List ℕ) (x n key : ℕ) (s : Site) → x ≡ n → IsIn bodies x → s ≡ site x → IsTrue b ↔ IsUnder key s
-    → IsTrue b ↔ (IsIn bodies n × IsUnder key (site n))
-body_found b site bodies x n key s e i f h = (
-  (λ t. (subst (IsIn bodies) e i, under_same key s (site n) (f ∙ ap site e) (h.0 t))),
-  (λ q. h.1 (under_same key (site n) s (sym (f ∙ ap site e)) q.1)),
+pub body_found : (b : Bool) (site : ℕ → Site) (bodies : List ℕ) (x w key : ℕ) (s : Site) → w ≡ body_word x → IsIn bodies x → s ≡ site x → IsTrue b ↔ IsUnder key s
+    → IsTrue b ↔ NamesBodyUnder site bodies key w
+body_found b site bodies x w key s e i f h = (
+  (λ t. (x, e, i, under_same key s (site x) f (h.0 t))),
+  (λ q. let same : q.0 ≡ x = omega (arith, q.1, e) in h.1 (under_same key (site q.0) s (ap site same ∙ sym f) q.3)),
 )
 
 -- a member of a front of a list is one of the list
@@ -202,10 +232,10 @@ in_front (suc m) (x ∷ xs) n (inl e) = inl e
 in_front (suc m) (x ∷ xs) n (inr i) = inr (in_front m xs n i)
 
 -- the answer of the whole test
-pub whole_answer : (b : Bool) (m : ℕ) (site : ℕ → Site) (at : ℕ → ℕ) (cells bodies : List ℕ) → AreBelow m bodies → NoneTwice cells → NamesRightly site at cells bodies 1 (at 0)
+pub whole_answer : (b : Bool) (m : ℕ) (site : ℕ → Site) (at : ℕ → ℕ) (cells bodies : List ℕ) → All (λ n. n < m) bodies → NoneTwice cells → NamesRightly site at cells bodies 1 (at 0)
     → ((c : ℕ) → IsIn cells c → IsRightCell site at cells bodies c) → IsTrue b ↔ ((n : ℕ) → IsIn bodies n → IsNamedSomewhere at cells (body_word n))
-    → IsTrue b ↔ (AreBelow m bodies × NamesExactly site at cells bodies)
+    → IsTrue b ↔ (All (λ n. n < m) bodies × NamesExactly site at 0 1 cells [] bodies)
 whole_answer b m site at cells bodies below once root right h = (
   (λ t. (below, exact_of_right site at cells bodies (record { none_twice = once; root = root; cells_right = right; bodies_named = h.0 t }))),
-  (λ q. h.1 (right_body site at cells bodies q.1)),
+  (λ q. h.1 (body_is_named site at cells bodies q.1)),
 )

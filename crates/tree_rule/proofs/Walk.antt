@@ -1,4 +1,5 @@
 -- The cells and bodies of words that stand for a set are those that are read on the way down.
+use Rattle.std.proofs.lemmas.Bool.{cases_lt}
 use Rattle.std.proofs.Common.{ℕ, ◌+◌, ◌*◌, ◌<◌, ◌≤◌, ◌≡◌, ◌↔◌, zero, suc, refl, sym, ◌∙◌, ap, subst, inl, inr, arith, List, [], ◌∷◌}
 use Rattle.octant_code.specs.Space.{Site, octant_of, key_of, IsUnder}
 use Rattle.octant_code.proofs.Keys.{key-zero, key-suc, key-positive, octant-small, same_level, same_parent, same_child}
@@ -7,8 +8,8 @@ use Rattle.bh_model.proofs.Trees.{order-body, order-cell, order-empty}
 use Rattle.bh_model.specs.Bodies.{IsIn, NoneTwice}
 use Rattle.bh_model.specs.Trees.{octree, Tree, order}
 use Rattle.tree_rule.proofs.Canonical.{flat_gives_canonical, ACell, NoBody, OneBody, WordIs, tree-body, tree-cell, tree-empty, word_is}
-use Rattle.tree_rule.proofs.Flat.{below_top, word_over}
-use Rattle.tree_rule.proofs.Graft.{shared_more}
+use Rattle.tree_rule.proofs.Flat.{below_top, one_word, word_over}
+use Rattle.tree_rule.proofs.Shared.{shared_more, sharer}
 use Rattle.tree_rule.specs.Flat.{Child, IsShared, IsWordOf, StandsAmid, StandsFor, Top}
 use Rattle.tree_rule.specs.Words.{Below, Here, IsReached, body_word, cell_word, child_place, key_place, tree_from}
 
@@ -27,31 +28,66 @@ key_of_reached site at top base P B h _ (Below c k w r l e) =
     record { key = 8 * at (key_place c) + k; named = Child c k g.0 l refl e }
 
 -- each word of a key is read
-pub reached_of_word : (site : ℕ → Site) (at : ℕ → ℕ) (top base : ℕ) (P B : ℕ → Type 0) → StandsFor site at top base P B
+pub reached_of_word : (site : ℕ → Site) (at : ℕ → ℕ) (top base : ℕ) (P B V : ℕ → Type 0) → StandsAmid site at top base P B V
     → (s : Site) (level w : ℕ) → IsWordOf at top base P (key_of s level) w → IsReached at top w
-reached_of_word site at top base P B h s level w (Top k e) = Here w e
-reached_of_word site at top base P B h s zero w (Child c k p l e x) =
-    let f = h.shared c p in
+reached_of_word site at top base P B V h s level w (Top k e) = Here w e
+reached_of_word site at top base P B V h s zero w (Child c k p l e x) =
+    let f = sharer (h.shared c p) in
     absurd (omega (arith, key-zero s, f.one_under, key-positive (site f.one) f.level))
-reached_of_word site at top base P B h s (suc level) w (Child c k p l e x) =
+reached_of_word site at top base P B V h s (suc level) w (Child c k p l e x) =
     let same : at (key_place c) ≡ key_of s level = same_parent _ _ k (octant_of s level) l (octant-small s level) (sym e ∙ key-suc s level) in
     let up : IsWordOf at top base P (key_of s level) (cell_word c) = subst (λ (y : ℕ). IsWordOf at top base P y (cell_word c)) same (h.cell_named c p) in
-    Below c k w (reached_of_word site at top base P B h s level (cell_word c) up) l x
+    Below c k w (reached_of_word site at top base P B V h s level (cell_word c) up) l x
+
+-- each cell of the set is read
+pub cell_is_reached : (site : ℕ → Site) (at : ℕ → ℕ) (top base : ℕ) (P B V : ℕ → Type 0) → StandsAmid site at top base P B V → (c : ℕ) → P c → IsReached at top (cell_word c)
+cell_is_reached site at top base P B V h c p =
+    let f = sharer (h.shared c p) in
+    reached_of_word site at top base P B V h (site f.one) f.level (cell_word c) (subst (λ (y : ℕ). IsWordOf at top base P y (cell_word c)) f.one_under (h.cell_named c p))
 
 -- the cells of the set are those that are read
 pub cell_reached : (site : ℕ → Site) (at : ℕ → ℕ) (top base : ℕ) (P B : ℕ → Type 0) → StandsFor site at top base P B → (c : ℕ) → P c ↔ IsReached at top (cell_word c)
 cell_reached site at top base P B h c = (
-  λ p. let f = h.shared c p in
-      reached_of_word site at top base P B h (site f.one) f.level (cell_word c) (subst (λ (y : ℕ). IsWordOf at top base P y (cell_word c)) f.one_under (h.cell_named c p)),
+  cell_is_reached site at top base P B B h c,
   λ r. let f = key_of_reached site at top base P B h (cell_word c) r in (h.names_cell f.key c f.named).0,
 )
 
 -- the bodies of the set are those that are read
 pub body_reached : (site : ℕ → Site) (at : ℕ → ℕ) (top base : ℕ) (P B : ℕ → Type 0) → StandsFor site at top base P B → (n : ℕ) → B n ↔ IsReached at top (body_word n)
 body_reached site at top base P B h n = (
-  λ b. let f = h.body_named n b in reached_of_word site at top base P B h (site n) f.level (body_word n) f.named,
+  λ b. let f = h.body_named n b in reached_of_word site at top base P B B h (site n) f.level (body_word n) f.named,
   λ r. let f = key_of_reached site at top base P B h (body_word n) r in (h.names_body f.key n f.named).0,
 )
+
+-- one step of the way down to a point's word
+reached_step : (site : ℕ → Site) (at : ℕ → ℕ) (top base : ℕ) (P B V : ℕ → Type 0) → StandsAmid site at top base P B V
+    → (s : Site) (level w upper v : ℕ) → IsWordOf at top base P (key_of s (suc level)) w → IsWordOf at top base P (key_of s upper) v → upper ≤ level
+    → ((c : ℕ) → IsWordOf at top base P (key_of s level) (cell_word c) → IsReached at v (cell_word c)) → IsReached at v w
+reached_step site at top base P B V h s level w upper v (Top k e) y le rest =
+    let t = below_top site at top base P B V h s upper v y in
+    let same : suc level ≡ t.top_level = same_level s s (suc level) t.top_level (k ∙ t.is_base) in
+    absurd (omega (arith, t.above))
+reached_step site at top base P B V h s level w upper v (Child c k p l e f) y le rest =
+    let same : at (key_place c) ≡ key_of s level = same_parent _ _ k (octant_of s level) l (octant-small s level) (sym e ∙ key-suc s level) in
+    let up : IsWordOf at top base P (key_of s level) (cell_word c) = subst (λ (z : ℕ). IsWordOf at top base P z (cell_word c)) same (h.cell_named c p) in
+    Below c k w (rest c up) l f
+
+-- a point's word is read below each of its words above
+pub reached_below : (site : ℕ → Site) (at : ℕ → ℕ) (top base : ℕ) (P B V : ℕ → Type 0) → StandsAmid site at top base P B V
+    → (s : Site) (level w upper v : ℕ) → IsWordOf at top base P (key_of s level) w → IsWordOf at top base P (key_of s upper) v → upper ≤ level → IsReached at v w
+reached_below site at top base P B V h s zero w upper v x y le =
+    let z : upper ≡ 0 = omega arith in
+    let y' : IsWordOf at top base P (key_of s 0) v = subst (λ (u : ℕ). IsWordOf at top base P (key_of s u) v) z y in
+    Here w (one_word site at top base P B V h (key_of s 0) w v x y')
+reached_below site at top base P B V h s (suc level) w upper v x y le =
+    elim (cases_lt upper (suc level)) [
+      | inl r ↦ reached_step site at top base P B V h s level w upper v x y (omega arith)
+          (λ c up. reached_below site at top base P B V h s level (cell_word c) upper v up y (omega arith))
+      | inr r ↦
+          let z : upper ≡ suc level = omega arith in
+          let y' : IsWordOf at top base P (key_of s (suc level)) v = subst (λ (u : ℕ). IsWordOf at top base P (key_of s u) v) z y in
+          Here w (one_word site at top base P B V h (key_of s (suc level)) w v x y')
+    ]
 
 -- to no depth the order is empty
 no_order : (at : ℕ → ℕ) (w n : ℕ) → IsIn (order (tree_from at zero w)) n → ⊥
@@ -66,7 +102,7 @@ under_up s key k pos small (suc l, le, e) = (l, omega arith, same_parent key (ke
 -- the key of a cell is not 0
 pub key_positive_of : (site : ℕ → Site) (at : ℕ → ℕ) (top base : ℕ) (P B : ℕ → Type 0) → StandsFor site at top base P B
     → (c : ℕ) → P c → (key : ℕ) → at (key_place c) ≡ key → 1 ≤ key
-key_positive_of site at top base P B h c p key e = let f = h.shared c p in omega (arith, f.one_under, key-positive (site f.one) f.level)
+key_positive_of site at top base P B h c p key e = let f = sharer (h.shared c p) in omega (arith, f.one_under, key-positive (site f.one) f.level)
 
 -- a body in the order of a word's tree is one of the set, and lies in the word's cube
 pub order_sound : (site : ℕ → Site) (at : ℕ → ℕ) (top base : ℕ) (P B : ℕ → Type 0) → StandsFor site at top base P B
@@ -110,7 +146,7 @@ order_complete site at top base P B h (suc f) level w n shallow deep b x =
           let s : Site = site n in
           let c : ℕ = z.0 in
           let g = h.names_cell (key_of s level) c (subst (λ (y : ℕ). IsWordOf at top base P (key_of s level) y) z.2 x) in
-          let t = h.shared c g.0 in
+          let t = sharer (h.shared c g.0) in
           let l : t.level ≡ level = same_level (site t.one) s t.level level (sym t.one_under ∙ g.1) in
           let k : ℕ = octant_of s level in
           let kid : IsWordOf at top base P (key_of s (suc level)) (at (child_place c k)) =
@@ -170,7 +206,7 @@ amid_same site at top base P Q B M V W pq bm vw h =
       names_cell = λ key c x. let f = h.names_cell key c (back key (cell_word c) x) in ((pq c).0 f.0, f.1);
       body_named = λ n b. let f = h.body_named n ((bm n).1 b) in record { level = f.level; shallow = f.shallow; named = there (key_of (site n) f.level) (body_word n) f.named };
       names_body = λ key n x. let f = h.names_body key n (back key (body_word n) x) in ((bm n).0 f.0, f.1);
-      shared = λ c p. shared_more site V W (at (key_place c)) vw (h.shared c ((pq c).1 p));
+      shared = λ c p. shared_more vw (h.shared c ((pq c).1 p));
     }
 
 -- the same where the bodies are the witnesses

@@ -2,7 +2,7 @@
 use Rattle.std.specs.Prelude.{ℕ, ◌+◌, ◌*◌, ◌<◌, ◌≤◌, ◌≡◌, ◌≢◌, ◌⊎◌, List}
 use Rattle.octant_code.specs.Space.{Site, key_of, IsUnder}
 use Rattle.octant_code.specs.Points.{site_at}
-use Rattle.bh_model.specs.Bodies.{IsIn}
+use Rattle.bh_model.specs.Bodies.{HasMoreThan, IsIn, leaf_size}
 use Rattle.tree_rule.specs.Words.{at_of, child_place, key_place, body_word, cell_word}
 
 -- The word of the cube of a key is `w`: the top word, or a child word of a published cell.
@@ -18,17 +18,11 @@ IsCellAt at top base IsCell key c = IsWordOf at top base IsCell key (cell_word c
 abbrev pub IsBodyAt : (ℕ → ℕ) → ℕ → ℕ → (ℕ → Type 0) → ℕ → ℕ → Type 0
 IsBodyAt at top base IsCell key n = IsWordOf at top base IsCell key (body_word n)
 
--- Two bodies of the set lie in the cube of a key, which is of one of the levels that cells have.
+-- More bodies of the set lie in the cube of a key than a leaf holds, and the key is of one of the levels that cells have.
 pub record IsShared (site : ℕ → Site) (IsBody : ℕ → Type 0) (key : ℕ) : Type 0 where
   pub level : ℕ
   pub shallow : level ≤ 20
-  pub one : ℕ
-  pub other : ℕ
-  pub one_in : IsBody one
-  pub other_in : IsBody other
-  pub differ : one ≢ other
-  pub one_under : key ≡ key_of (site one) level
-  pub other_under : key ≡ key_of (site other) level
+  pub sharers : HasMoreThan leaf_size (λ n. IsBody n × (key ≡ key_of (site n) level))
 
 -- Body `n` is named by the word of a cube that its point lies in.
 pub record IsNamed (site : ℕ → Site) (at : ℕ → ℕ) (top base : ℕ) (IsCell : ℕ → Type 0) (n : ℕ) : Type 0 where
@@ -36,7 +30,8 @@ pub record IsNamed (site : ℕ → Site) (at : ℕ → ℕ) (top base : ℕ) (Is
   pub shallow : level ≤ 21
   pub named : IsBodyAt at top base IsCell (key_of (site n) level) n
 
--- The words below the top word name a set of bodies with a set of cells, below each of which lie two bodies of a set of witnesses.
+-- The words below the top word name a set of bodies with a set of cells, and below each cell lie more bodies of a set of
+-- witnesses than a leaf holds.
 pub record StandsAmid (site : ℕ → Site) (at : ℕ → ℕ) (top base : ℕ) (IsCell IsBody IsWitness : ℕ → Type 0) : Type 0 where
   pub keys_differ : (c d : ℕ) → IsCell c → IsCell d → at (key_place c) ≡ at (key_place d) → c ≡ d
   pub cell_named : (c : ℕ) → IsCell c → IsCellAt at top base IsCell (at (key_place c)) c
@@ -49,10 +44,10 @@ pub record StandsAmid (site : ℕ → Site) (at : ℕ → ℕ) (top base : ℕ) 
 abbrev pub StandsFor : (ℕ → Site) → (ℕ → ℕ) → ℕ → ℕ → (ℕ → Type 0) → (ℕ → Type 0) → Type 0
 StandsFor site at top base IsCell IsBody = StandsAmid site at top base IsCell IsBody IsBody
 
--- The word of the cube of a key stands at a place: the top's, which is one of the first three, or that of a child of a published cell.
-pub data IsPlaceOf (at : ℕ → ℕ) (first base : ℕ) (IsCell : ℕ → Type 0) (key place : ℕ) : Type 0 where
-  TopPlace : key ≡ base → place ≡ first → first < 3 → IsPlaceOf at first base IsCell key place
-  ChildPlace : (c k : ℕ) → IsCell c → k < 8 → key ≡ 8 * at (key_place c) + k → place ≡ child_place c k → IsPlaceOf at first base IsCell key place
+-- The word of the cube of a key stands at a place: the root word's place, or that of a child of a published cell.
+pub data IsPlaceOf (at : ℕ → ℕ) (root base : ℕ) (IsCell : ℕ → Type 0) (key place : ℕ) : Type 0 where
+  TopPlace : key ≡ base → place ≡ root → IsPlaceOf at root base IsCell key place
+  ChildPlace : (c k : ℕ) → IsCell c → k < 8 → key ≡ 8 * at (key_place c) + k → place ≡ child_place c k → IsPlaceOf at root base IsCell key place
 
 -- what is in one set or another
 abbrev pub Either : (ℕ → Type 0) → (ℕ → Type 0) → ℕ → Type 0
@@ -63,14 +58,10 @@ pub record ChangedAt (at at' : ℕ → ℕ) (place w : ℕ) : Type 0 where
   pub now : at' place ≡ w
   pub others : (i : ℕ) → i ≢ place → at' i ≡ at i
 
--- the published words of a list name a list of bodies, with a list of cells, amid a list of witnesses
-abbrev pub WordsStandAmid : List Site → List ℕ → List ℕ → List ℕ → List ℕ → Type 0
-WordsStandAmid sites words cells bodies witnesses = StandsAmid (site_at sites) (at_of words) (at_of words 0) 1 (IsIn cells) (IsIn bodies) (IsIn witnesses)
+-- the words of a list, from a root word with a key on, name a list of bodies, with a list of cells, amid a list of witnesses
+abbrev pub WordsStandAmid : List Site → List ℕ → ℕ → ℕ → List ℕ → List ℕ → List ℕ → Type 0
+WordsStandAmid sites words root base cells bodies witnesses = StandsAmid (site_at sites) (at_of words) (at_of words root) base (IsIn cells) (IsIn bodies) (IsIn witnesses)
 
--- the published words of a list stand for a list of bodies, with a list of cells
-abbrev pub WordsStandFor : List Site → List ℕ → List ℕ → List ℕ → Type 0
-WordsStandFor sites words cells bodies = WordsStandAmid sites words cells bodies bodies
-
--- the cells below a word that is not published name a list of bodies of the cube of a key, amid a list of witnesses
-abbrev pub PartStandsAmid : List Site → List ℕ → ℕ → ℕ → List ℕ → List ℕ → List ℕ → Type 0
-PartStandsAmid sites words top key cells bodies witnesses = StandsAmid (site_at sites) (at_of words) top key (IsIn cells) (IsIn bodies) (IsIn witnesses)
+-- the words of a list, from a root word with a key on, stand for a list of bodies, with a list of cells
+abbrev pub WordsStandFor : List Site → List ℕ → ℕ → ℕ → List ℕ → List ℕ → Type 0
+WordsStandFor sites words root base cells bodies = WordsStandAmid sites words root base cells bodies bodies

@@ -4,5 +4,6 @@ pub mod Flat
 pub mod Sound
 pub mod Standing
 pub mod Notes
+pub mod Renumbered
 pub mod Tested
 pub mod Naming

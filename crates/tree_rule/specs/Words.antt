@@ -38,6 +38,12 @@ pub data Named : Type 0 where
 unfoldable pub named_by : ℕ → Named
 named_by w = cond (eqb w 0) NoName (cond (eqb (w % 2) 1) (BodyName (w / 2)) (CellName (w / 2 - 1)))
 
+-- the word of what is named
+unfoldable pub word_of : Named → ℕ
+word_of NoName = 0
+word_of (BodyName n) = body_word n
+word_of (CellName c) = cell_word c
+
 -- the word names nothing
 abbrev pub NamesNothing : ℕ → Type 0
 NamesNothing w = named_by w ≡ NoName

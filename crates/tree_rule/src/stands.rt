@@ -1,14 +1,15 @@
 //! The test of a small table: whether its published words name exactly the cells and the bodies of
 //! two lists. It goes over the lists again and again and keeps nothing.
 
-ghost use Rattle.std.specs.Prelude.{◌≡◌, ◌<◌, ◌+◌, ◌*◌, ◌↔◌, ℕ, IsTrue, length};
-ghost use Rattle.octant_code.specs.Space.{IsKey, IsUnder};
+ghost use Rattle.std.specs.Prelude.{◌≡◌, ◌<◌, ◌↔◌, ℕ, [], All, IsTrue, length};
+ghost use Rattle.octant_code.specs.Space.{IsKey};
 ghost use Rattle.octant_code.specs.Points.{site_at};
-ghost use Rattle.bh_model.specs.Bodies.{IsIn, NoneTwice, HasTwoUnder};
+ghost use Rattle.bh_model.specs.Bodies.{IsIn, NoneTwice, HasMoreUnder};
 ghost use Rattle.tree_rule.specs.Words.{at_of, body_word, key_place};
 ghost use Rattle.tree_rule.specs.Standing.{IsCellKey, WordsNameExactly};
-ghost use Rattle.tree_rule.specs.Tested.{AreBelow, ChildrenNameRightly, HasOtherUnder, HasOwnKey, IsChildWord, IsNamedSomewhere, IsRightCell, NamesRightly};
+ghost use Rattle.tree_rule.specs.Tested.{ChildrenNameRightly, HasOtherUnder, HasOwnKey, IsChildWord, IsNamedSomewhere, IsRightCell, NamesBodyUnder, NamesCellOf, NamesRightly};
 
+use crate::words::{place_of_child, place_of_key, word_of_body, word_of_cell};
 use octant_code::{Points, key_has};
 
 // Whether a number stands in a list.
@@ -37,7 +38,7 @@ fn none_twice(list: &[u32]) -> bool
 
 // Whether each number of a list is below a number.
 fn are_below(list: &[u32], most: u32) -> bool
-    ensures { IsTrue result ↔ AreBelow most list.now }
+    ensures { IsTrue result ↔ All (λ n. n < most) list.now }
 {
     for x in list {
         if *x >= most {
@@ -58,7 +59,7 @@ fn word_at(words: &[u64], place: usize) -> u64
 fn key_word(words: &[u64], c: u32) -> u64
     ensures { result ≡ at_of words.now (key_place c) }
 {
-    word_at(words, 11 + 10 * c as usize)
+    word_at(words, place_of_key(c))
 }
 
 // Whether a number is the key of a cube of a level 0 to 20.
@@ -93,7 +94,7 @@ fn has_own_key(words: &[u64], cells: &[u32], c: u32) -> bool
 
 // Whether a body of a list other than `one` lies under a key.
 fn has_other_under(points: &Points, bodies: &[u32], key: u64, one: u32) -> bool
-    requires known { AreBelow (length points.now) bodies.now }
+    requires known { All (λ n. n < length points.now) bodies.now }
     requires key { IsKey key }
     ensures { IsTrue result ↔ HasOtherUnder (site_at points.now) bodies.now key one }
 {
@@ -105,11 +106,12 @@ fn has_other_under(points: &Points, bodies: &[u32], key: u64, one: u32) -> bool
     false
 }
 
-// Whether two bodies of a list lie under a key: the first that does, and another.
-fn has_two_under(points: &Points, bodies: &[u32], key: u64) -> bool
-    requires known { AreBelow (length points.now) bodies.now }
+// Whether more bodies of a list lie under a key than a leaf holds, which is one: the first that
+// does, and another.
+fn has_more_under(points: &Points, bodies: &[u32], key: u64) -> bool
+    requires known { All (λ n. n < length points.now) bodies.now }
     requires key { IsKey key }
-    ensures { IsTrue result ↔ HasTwoUnder (site_at points.now) bodies.now key }
+    ensures { IsTrue result ↔ HasMoreUnder (site_at points.now) bodies.now key }
 {
     for x in bodies {
         if key_has(key, points.at(*x)) {
@@ -124,7 +126,7 @@ fn is_child_word(words: &[u64], c: u32, w: u64) -> bool
     ensures { IsTrue result ↔ IsChildWord (at_of words.now) c w }
 {
     for k in 0..8 {
-        if word_at(words, 3 + 10 * c as usize + k) == w {
+        if word_at(words, place_of_child(c, k)) == w {
             return true;
         }
     }
@@ -146,33 +148,33 @@ fn is_named(words: &[u64], cells: &[u32], w: u64) -> bool
     false
 }
 
-// Whether a number is a cell of a list that has a key.
-fn is_cell_of(words: &[u64], cells: &[u32], n: u64, key: u64) -> bool
-    ensures { IsTrue result ↔ (IsIn cells.now n × (at_of words.now (key_place n) ≡ key)) }
+// Whether a word names a cell of a list that has a key.
+fn is_cell_of(words: &[u64], cells: &[u32], key: u64, w: u64) -> bool
+    ensures { IsTrue result ↔ NamesCellOf (at_of words.now) cells.now key w }
 {
     for c in cells {
-        if u64::from(*c) == n {
+        if word_of_cell(*c) == w {
             return key_word(words, *c) == key;
         }
     }
     false
 }
 
-// Whether a number is a body of a list that lies under a key.
-fn is_body_under(points: &Points, bodies: &[u32], n: u64, key: u64) -> bool
-    requires known { AreBelow (length points.now) bodies.now }
+// Whether a word names a body of a list that lies under a key.
+fn is_body_under(points: &Points, bodies: &[u32], key: u64, w: u64) -> bool
+    requires known { All (λ n. n < length points.now) bodies.now }
     requires key { IsKey key }
-    ensures { IsTrue result ↔ (IsIn bodies.now n × IsUnder key (site_at points.now n)) }
+    ensures { IsTrue result ↔ NamesBodyUnder (site_at points.now) bodies.now key w }
 {
     for x in bodies {
-        if u64::from(*x) == n {
+        if word_of_body(*x) == w {
             return key_has(key, points.at(*x));
         }
     }
     false
 }
 
-// Whether the word of a key's cube names nothing, a cell of the key, or a body of the cube.
+// Whether the word of a key's cube names nothing, a body of the cube, or a cell of the key.
 fn names_rightly(
     points: &Points,
     words: &[u64],
@@ -181,18 +183,11 @@ fn names_rightly(
     key: u64,
     w: u64,
 ) -> bool
-    requires known { AreBelow (length points.now) bodies.now }
+    requires known { All (λ n. n < length points.now) bodies.now }
     requires key { IsKey key }
     ensures { IsTrue result ↔ NamesRightly (site_at points.now) (at_of words.now) cells.now bodies.now key w }
 {
-    if w == 0 {
-        return true;
-    }
-    if w % 2 == 1 {
-        is_body_under(points, bodies, w / 2, key)
-    } else {
-        is_cell_of(words, cells, w / 2 - 1, key)
-    }
+    w == 0 || is_body_under(points, bodies, key, w) || is_cell_of(words, cells, key, w)
 }
 
 // Whether each child word of a cell names rightly.
@@ -203,13 +198,13 @@ fn children_name_rightly(
     bodies: &[u32],
     c: u32,
 ) -> bool
-    requires known { AreBelow (length points.now) bodies.now }
+    requires known { All (λ n. n < length points.now) bodies.now }
     requires key { IsCellKey (at_of words.now (key_place c)) }
     ensures { IsTrue result ↔ ChildrenNameRightly (site_at points.now) (at_of words.now) cells.now bodies.now c }
 {
     let first = 8 * key_word(words, c);
     for k in 0..8 {
-        let w = word_at(words, 3 + 10 * c as usize + k);
+        let w = word_at(words, place_of_child(c, k));
         if !names_rightly(points, words, cells, bodies, first + k as u64, w) {
             return false;
         }
@@ -219,7 +214,7 @@ fn children_name_rightly(
 
 // Whether all is right with a cell: its key, the bodies under it, its name and its child words.
 fn is_right_cell(points: &Points, words: &[u64], cells: &[u32], bodies: &[u32], c: u32) -> bool
-    requires known { AreBelow (length points.now) bodies.now }
+    requires known { All (λ n. n < length points.now) bodies.now }
     ensures { IsTrue result ↔ IsRightCell (site_at points.now) (at_of words.now) cells.now bodies.now c }
 {
     let key = key_word(words, c);
@@ -227,14 +222,14 @@ fn is_right_cell(points: &Points, words: &[u64], cells: &[u32], bodies: &[u32], 
         return false;
     }
     has_own_key(words, cells, c)
-        && has_two_under(points, bodies, key)
-        && is_named(words, cells, 2 * u64::from(c) + 2)
+        && has_more_under(points, bodies, key)
+        && is_named(words, cells, word_of_cell(c))
         && children_name_rightly(points, words, cells, bodies, c)
 }
 
 // Whether each cell of the list is right.
 fn are_right_cells(points: &Points, words: &[u64], cells: &[u32], bodies: &[u32]) -> bool
-    requires known { AreBelow (length points.now) bodies.now }
+    requires known { All (λ n. n < length points.now) bodies.now }
     ensures { IsTrue result ↔ ((c : ℕ) → IsIn cells.now c → IsRightCell (site_at points.now) (at_of words.now) cells.now bodies.now c) }
 {
     for c in cells {
@@ -250,7 +245,7 @@ fn are_named(words: &[u64], cells: &[u32], bodies: &[u32]) -> bool
     ensures { IsTrue result ↔ ((n : ℕ) → IsIn bodies.now n → IsNamedSomewhere (at_of words.now) cells.now (body_word n)) }
 {
     for x in bodies {
-        if !is_named(words, cells, 2 * u64::from(*x) + 1) {
+        if !is_named(words, cells, word_of_body(*x)) {
             return false;
         }
     }
@@ -260,7 +255,7 @@ fn are_named(words: &[u64], cells: &[u32], bodies: &[u32]) -> bool
 /// Whether each number of `bodies` is that of a point, and the published words of a table name
 /// exactly the cells and the bodies of the two lists.
 pub fn words_stand(points: &Points, words: &[u64], cells: &[u32], bodies: &[u32]) -> bool
-    ensures { IsTrue result ↔ (AreBelow (length points.now) bodies.now × WordsNameExactly points.now words.now cells.now bodies.now) }
+    ensures { IsTrue result ↔ (All (λ n. n < length points.now) bodies.now × WordsNameExactly points.now words.now 0 1 cells.now [] bodies.now) }
 {
     if !are_below(bodies, points.len()) {
         return false;

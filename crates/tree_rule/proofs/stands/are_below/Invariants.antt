@@ -2,4 +2,4 @@ use Rattle.std.proofs.Common.{ℕ, ◌<◌, get_or}
 use Rattle.tree_rule.proofs.stands.are_below.Given as goal
 
 abbrev pub invariant-loop-x : goal.invariant-loop-x
-invariant-loop-x l = (k : ℕ) → k < l.x-index → get_or l.list k 0 < l.most
+invariant-loop-x l = (k d : ℕ) → k < l.x-index → get_or l.list k d < l.most

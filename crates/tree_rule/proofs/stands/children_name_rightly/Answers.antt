@@ -1,4 +1,4 @@
-use Rattle.std.proofs.Common.{ℕ, ◌<◌, ◌+◌, ◌*◌, sym, subst, refl, arith, below_more}
+use Rattle.std.proofs.Common.{ℕ, ◌<◌, ◌+◌, ◌*◌, sym, ◌∙◌, ap, subst, refl, arith, below_more}
 use Rattle.tree_rule.specs.Words.{at_of, key_place, child_place}
 use Rattle.octant_code.specs.Space.{IsKey}
 use Rattle.octant_code.specs.Points.{site_at}
@@ -21,4 +21,4 @@ pub loop-k-preserved : goal.loop-k-preserved
 loop-k-preserved c = below_more _ _ c.loop-k.invariant (
     let right = NamesRightly (site_at c.args.points.now) (at_of c.args.words.now) c.args.cells.now c.args.bodies.now in
     subst (λ (x : ℕ). right (8 * x + c.loop-k.k) (at_of c.args.words.now (child_place c.args.c c.loop-k.k))) c.key_word-first.ensures
-    (subst (λ (y : ℕ). right (8 * c.key_word-first.result + c.loop-k.k) y) c.word_at-w.ensures (c.if-not-names_rightly.ensures.0 refl)))
+    (subst (λ (y : ℕ). right (8 * c.key_word-first.result + c.loop-k.k) y) (c.word_at-w.ensures ∙ ap (at_of c.args.words.now) c.place_of_child.ensures) (c.if-not-names_rightly.ensures.0 refl)))

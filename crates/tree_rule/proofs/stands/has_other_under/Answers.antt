@@ -5,7 +5,7 @@ use Rattle.tree_rule.proofs.Tested.{each_member, false_where, member_at, true_wh
 use Rattle.tree_rule.proofs.stands.has_other_under.Goals as goal
 
 pub at-requires : goal.at-requires
-at-requires c = c.requires.known _ (member_at c.args.bodies.now c.loop-x.x-index (omega arith))
+at-requires c = c.requires.known c.loop-x.x-index 0 (omega arith)
 
 pub returns-then-key_has : goal.returns-then-key_has
 returns-then-key_has c = true_where _ (record {

@@ -1,6 +1,6 @@
 use Rattle.std.proofs.Common.{◌≡◌, ◌∷◌, [], subst, arith, length}
 use Rattle.bh_model.specs.Bodies.{NoneTwice}
-use Rattle.cell_pool.proofs.Regions.{once_front}
+use Rattle.bh_model.proofs.Lists.{once_front}
 use Rattle.cell_pool.proofs.region.Region.take.Goals as goal
 
 pub invariant_of-self : goal.invariant_of-self
