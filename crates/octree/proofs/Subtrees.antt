@@ -66,8 +66,8 @@ module _ (o : Stored) (c : ℕ) (r : IsSpot (cell_spot o c)) where
   cell_reached = forget (at_of o.words) (root_word o) o.base r.key (cell_word c) r.read
 
   -- it has its words in the list
-  pub cell_fits : c < o.held
-  cell_fits = omega (arith, r.stored.cells_used c cell_reached, r.stored.used_held)
+  pub cell_fits : c < o.used
+  cell_fits = r.stored.cells_used c cell_reached
 
   -- its key has room for one digit more
   pub cell_key : r.key < 2 ^ 61

@@ -1,13 +1,14 @@
--- An octree as it is stored: its words, the key and the level of its cube, and how many of its cells are used and held.
-use Rattle.std.specs.Prelude.{ℕ, ◌+◌, ◌-◌, ◌*◌, ◌/◌, ◌^◌, ◌<◌, ◌≤◌, ◌≡◌, ◌⊎◌, ◌↔◌, List, length}
+-- An octree as it is stored: the words of its used cells, the key and the level of its cube, and how many of its cells are used and held.
+use Rattle.std.specs.Prelude.{ℕ, ◌+◌, ◌-◌, ◌*◌, ◌/◌, ◌^◌, ◌<◌, ◌≤◌, ◌≡◌, ◌⊎◌, ◌↔◌, List, ◌++◌, length, replicate, take}
 use Rattle.octant_code.specs.Space.{Site}
 use Rattle.octant_code.specs.Points.{site_at}
 use Rattle.bh_model.specs.Trees.{Tree}
 use Rattle.tree_rule.specs.Words.{at_of, cells_from, key_place, tree_from, HasCell, HasBody}
+use Rattle.tree_rule.specs.Naming.{lock_place}
 use Rattle.tree_rule.specs.Flat.{StandsFor}
 use Rattle.tree_rule.specs.Sound.{IsSound, BodiesUnder}
 
--- an octree by its words, the key and the level of its cube, and how many cells are used and held
+-- an octree by the words of its used cells, the key and the level of its cube, and how many cells are used and held
 pub record Stored : Type 0 where
   pub words : List ℕ
   pub base : ℕ
@@ -39,47 +40,50 @@ StandsWell sites words base = StandsFor (site_at sites) (at_of words) (at_of wor
 abbrev pub IsBlankFrom : List ℕ → ℕ → Type 0
 IsBlankFrom words used = (i : ℕ) → 3 + 10 * used ≤ i → at_of words i ≡ 0
 
--- the place of a cell's lock
-abbrev pub lock_place : ℕ → ℕ
-lock_place c = 12 + 10 * c
-
--- the two words behind the root's and the words of all locks are 0
-pub record AreUnlocked (words : List ℕ) : Type 0 where
+-- the two words behind the root's and the words of the locks of so many cells are 0
+pub record AreUnlocked (words : List ℕ) (cells : ℕ) : Type 0 where
   pub second : at_of words 1 ≡ 0
   pub third : at_of words 2 ≡ 0
-  pub locks : (c : ℕ) → at_of words (lock_place c) ≡ 0
+  pub locks : (c : ℕ) → c < cells → at_of words (lock_place c) ≡ 0
 
 -- what every octree keeps
 pub record IsStored (o : Stored) : Type 0 where
   pub few : o.held ≤ 1376256
-  pub long : length o.words ≡ 3 + 10 * o.held
+  pub long : length o.words ≡ 3 + 10 * o.used
   pub used_held : o.used ≤ o.held
   pub shallow : o.level ≤ 21
   pub base_low : 8 ^ o.level ≤ o.base
   pub base_high : o.base < 2 * 8 ^ o.level
-  pub blank : IsBlankFrom o.words o.used
-  pub unlocked : AreUnlocked o.words
+  pub unlocked : AreUnlocked o.words o.used
   pub sound : IsSound (at_of o.words) (at_of o.words 0) o.base
   pub cells_used : (c : ℕ) → HasCell o.words c → c < o.used
   pub bodies_small : (n : ℕ) → HasBody o.words n → n < 65536
 
--- The words are those of an octree of the whole cube, all of whose cells count as used.
+-- The words are those of an octree of the whole cube, with the words of all cells that it holds.
 pub record AreOctreeWords (words : List ℕ) : Type 0 where
   pub cells : ℕ
   pub few : cells ≤ 1376256
   pub long : length words ≡ 3 + 10 * cells
-  pub unlocked : AreUnlocked words
+  pub unlocked : AreUnlocked words cells
   pub sound : IsSound (at_of words) (at_of words 0) 1
   pub cells_held : (c : ℕ) → HasCell words c → c < cells
   pub bodies_small : (n : ℕ) → HasBody words n → n < 65536
+
+-- the octree of the whole cube that has the words of so many used cells, and holds as many as there are words of
+abbrev pub tree_with_used : List ℕ → ℕ → Stored
+tree_with_used words used = record { words = take (3 + 10 * used) words; base = 1; level = 0; used = used; held = (length words - 3) / 10 }
 
 -- the octree of the whole cube that has the words, and no spare cell
 abbrev pub full_tree : List ℕ → Stored
 full_tree words = record { words = words; base = 1; level = 0; used = (length words - 3) / 10; held = (length words - 3) / 10 }
 
+-- the words of all cells that an octree holds: those of the spare cells are 0
+abbrev pub all_words : Stored → List ℕ
+all_words o = o.words ++ replicate (10 * spare_of o) 0
+
 -- an octree, its spare cells counted as used
 abbrev pub all_used : Stored → Stored
-all_used o = record { words = o.words; base = o.base; level = o.level; used = o.held; held = o.held }
+all_used o = record { words = all_words o; base = o.base; level = o.level; used = o.held; held = o.held }
 
 -- the octree is the canonical one of its bodies at the sites of a list: each body's point lies under the key of its word
 pub record IsCanonical (sites : List Site) (o : Stored) : Type 0 where
@@ -96,9 +100,9 @@ pub record IsInserted (n : ℕ) (before after : Stored) : Type 0 where
   pub used_more : before.used ≤ after.used
   pub used_few : after.used ≤ before.used + 21
 
--- an octree after cells were reserved: the words that it had, with others that are 0 behind them, and what stays
+-- an octree after cells were reserved: it holds others, and the rest stays
 pub record IsRoomier (before after : Stored) : Type 0 where
-  pub words_stay : at_of after.words ≡ at_of before.words
+  pub words_stay : after.words ≡ before.words
   pub base_stays : after.base ≡ before.base
   pub level_stays : after.level ≡ before.level
   pub used_stays : after.used ≡ before.used

@@ -1,6 +1,6 @@
 //! The octree of bodies.
 
-use crate::chain::{Cube, part_two};
+use crate::chain::{Cube, cells_of_words, part_two, words_of_cells};
 use crate::count::count_cells;
 use crate::depth::deepest_body;
 use crate::descend::find_place;
@@ -12,6 +12,7 @@ use bh_outside::{Failed, Sink, TextBuffer};
 use octant_code::{OutOfMemory, Points, key_at};
 use std::alloc::Global;
 use std::marker::Model;
+use tree_rule::{place_of_child, word_of_body, word_of_cell};
 
 /// How many cells an octree may hold: 21 for each of 65,536 bodies.
 const MOST_CELLS: u32 = 1_376_256;
@@ -28,8 +29,10 @@ const FIRST_CELLS: u32 = 1024;
 /// words are this project's own). The words that are not used and the locks are 0: only builders of
 /// shared trees write them.
 ///
-/// Contracts see it as `Stored`: its words, the key and the level of its cube, and how many of its
-/// cells are used and held.
+/// The words of the spare cells are room in the list that is not written yet.
+///
+/// Contracts see it as `Stored`: the words of its used cells, the key and the level of its cube, and
+/// how many of its cells are used and held.
 #[derive(Drop)]
 pub struct Octree {
     words: Vec<u64>,
@@ -40,13 +43,14 @@ pub struct Octree {
 }
 
 impl Model for Octree {
+    ghost use Rattle.std.specs.Prelude.{◌+◌, ◌*◌, ◌≤◌, vec_capacity};
     ghost use Rattle.octree.specs.Stored.{Stored, IsStored};
 
     ghost Value = { Stored };
 
     ghost view = { λ a. record { words = a.words.items; base = a.base; level = a.level; used = a.used; held = a.held } };
 
-    ghost invariant = { λ a. IsStored (record { words = a.words.items; base = a.base; level = a.level; used = a.used; held = a.held }) };
+    ghost invariant = { λ a. IsStored (record { words = a.words.items; base = a.base; level = a.level; used = a.used; held = a.held }) × (3 + 10 * a.held ≤ vec_capacity a.words) };
 }
 
 impl Octree {
@@ -59,7 +63,7 @@ impl Octree {
     ghost use Rattle.bh_outside.specs.Text.{Puts};
     ghost use Rattle.tree_rule.specs.Words.{at_of, child_place, HasBody, HasCell};
     ghost use Rattle.octree.specs.Node.{IsNodeOf};
-    ghost use Rattle.octree.specs.Stored.{AreOctreeWords, IsCanonical, IsInserted, IsRoomier, IsStored, all_used, cells_of, full_tree, root_word, spare_of, tree_of};
+    ghost use Rattle.octree.specs.Stored.{AreOctreeWords, IsBlankFrom, IsCanonical, IsInserted, IsRoomier, IsStored, all_used, all_words, cells_of, full_tree, root_word, spare_of, tree_of, tree_with_used};
     ghost use Rattle.octree.specs.Reading.{IsOctreeOf};
     ghost use Rattle.octree.specs.Spot.{IsCellUnder, tree_under};
     ghost use Rattle.bh_model.specs.Trees.{height};
@@ -73,8 +77,12 @@ impl Octree {
         ensures held { IfOk result (λ t. t.held ≡ cells) }
         ensures empty { IfOk result (λ t. root_word t ≡ 0) }
     {
-        match vec![in alloc; 0u64; 3 + 10 * cells as usize] {
-            Ok(words) => Ok(Octree {
+        let mut words = match Vec::with_capacity(alloc, words_of_cells(cells)) {
+            Ok(words) => words,
+            Err(_) => return Err(OutOfMemory),
+        };
+        match words.resize(words_of_cells(0), 0) {
+            Ok(()) => Ok(Octree {
                 words,
                 base: 1,
                 level: 0,
@@ -94,19 +102,30 @@ impl Octree {
         self.held
     }
 
-    /// The words of a tree of the whole cube. It takes no memory.
+    /// The words of a tree of the whole cube, those of its spare cells too, which are 0. It takes no
+    /// memory.
     ///
-    /// Made a tree again by `of_words`, they are this tree, its spare cells counted as used.
+    /// Made a tree again by `of_words`, they are this tree, its spare cells counted as used; by
+    /// `with_used`, they are this tree.
     pub fn into_words(self) -> Vec<u64>
         requires { self.base ≡ 1 }
-        ensures words { result.items ≡ self.words }
+        ensures words { result.items ≡ all_words self }
         ensures count { length result.items ≡ 3 + 10 * self.held }
         ensures rule { IsStored self }
         ensures of_words { AreOctreeWords result.items }
+        ensures spare { IsBlankFrom result.items self.used }
         ensures tree { full_tree result.items ≡ all_used self }
+        ensures again { tree_with_used result.items self.used ≡ self }
     {
-        let Octree { words, .. } = self;
-        words
+        let Octree {
+            mut words,
+            held,
+            ..
+        } = self;
+        match words.resize(words_of_cells(held), 0) {
+            Ok(()) => words,
+            Err(_) => unreachable!(),
+        }
     }
 
     /// The tree of the whole cube that has the words, each cell with the number that it has there. It
@@ -117,7 +136,7 @@ impl Octree {
         ensures count { length words.items ≡ 3 + 10 * result.held }
         ensures full { spare_of result ≡ 0 }
     {
-        let held = ((words.len() - 3) / 10) as u32;
+        let held = cells_of_words(words.len());
         Octree {
             words,
             base: 1,
@@ -125,6 +144,35 @@ impl Octree {
             used: held,
             held,
         }
+    }
+
+    /// The tree of the whole cube that has the words, each cell with the number that it has there,
+    /// and whose cells from number `used` on, the words of which are 0, are spare. It takes no memory.
+    pub fn with_used(words: Vec<u64>, used: u32) -> Octree
+        requires words { AreOctreeWords words.items }
+        requires within { 3 + 10 * used ≤ length words.items }
+        requires spare { IsBlankFrom words.items used }
+        ensures tree { result ≡ tree_with_used words.items used }
+        ensures count { length words.items ≡ 3 + 10 * result.held }
+    {
+        let mut words = words;
+        let held = cells_of_words(words.len());
+        words.truncate(words_of_cells(used));
+        Octree {
+            words,
+            base: 1,
+            level: 0,
+            used,
+            held,
+        }
+    }
+
+    /// How many cells are used, reachable or not. The numbers of the cells that can be reached are
+    /// below.
+    pub fn used(&self) -> u32
+        ensures { result ≡ self.now.used }
+    {
+        self.used
     }
 
     /// How many cells are spare.
@@ -144,7 +192,7 @@ impl Octree {
     /// The word at a place.
     #[inline]
     pub(crate) fn word_at(&self, place: usize) -> u64
-        requires { place < 3 + 10 * self.now.held }
+        requires { place < 3 + 10 * self.now.used }
         ensures { result ≡ at_of self.now.words place }
     {
         self.words[place]
@@ -170,7 +218,7 @@ impl Octree {
         requires octant { k < 8 }
         ensures { IsNodeOf (at_of self.now.words (child_place c.0 k)) result }
     {
-        node_of(self.words[3 + 10 * c.0 as usize + k as usize])
+        node_of(self.words[place_of_child(c.0, k)])
     }
 
     /// Inserts body `n`, which takes at most 21 of the spare cells and no memory.
@@ -184,21 +232,20 @@ impl Octree {
         ensures inserted { IsInserted n self.old self.new }
     {
         let _rule = points.len();
-        let spot = find_place(&self.words, self.level, points, n);
-        let word = self.words[spot.place];
-        if word == 0 {
-            self.words[spot.place] = 2 * u64::from(n) + 1;
-        } else {
-            // The cube that holds the points of two bodies is not of the last level.
-            let x = (word / 2) as u32;
-            let _other = points.at(x);
-            let cube = Cube {
-                key: key_at(points.at(n), spot.level),
-                level: spot.level,
-            };
-            let next = part_two(&mut self.words, self.used, points, x, n, cube);
-            self.words[spot.place] = 2 * u64::from(self.used) + 2;
-            self.used = next;
+        let end = find_place(&self.words, self.level, points, n);
+        match end.body {
+            None => self.words[end.place] = word_of_body(n),
+            Some(x) => {
+                // The cube that holds the points of two bodies is not of the last level.
+                let _other = points.at(x);
+                let cube = Cube {
+                    key: key_at(points.at(n), end.level),
+                    level: end.level,
+                };
+                let next = part_two(&mut self.words, self.used, points, x, n, cube);
+                self.words[end.place] = word_of_cell(self.used);
+                self.used = next;
+            }
         }
     }
 
@@ -214,7 +261,10 @@ impl Octree {
             return Ok(());
         }
         let held = MOST_CELLS.min((self.used + cells).max(2 * self.held));
-        match self.words.resize(3 + 10 * held as usize, 0) {
+        match self
+            .words
+            .reserve_exact(words_of_cells(held) - self.words.len())
+        {
             Ok(()) => {
                 self.held = held;
                 Ok(())

@@ -10,16 +10,16 @@ use Rattle.octree.proofs.octree.Octree.whole.Goals as goal
 pub invariant_of-result : goal.invariant_of-result
 invariant_of-result c =
     let f = c.self.inside in
-    let some : 0 < length f.words.items = omega (arith, c.self.invariant.long) in
+    let some : 0 < length f.words.items = omega (arith, c.self.invariant.0.long) in
     let top : c.index.result.now ≡ at_of f.words.items 0 = get_or_read f.words.items 0 c.index.result.now some c.index.ensures 0 in
     subst (λ (o : Stored). IsSpot (inside_spot o c.index.result.now)) c.self.view_is
     (subst (λ (w : ℕ). IsSpot (inside_spot (record { words = f.words.items; base = f.base; level = f.level; used = f.used; held = f.held }) w)) (sym top)
-    (root_spot (record { words = f.words.items; base = f.base; level = f.level; used = f.used; held = f.held }) c.self.invariant))
+    (root_spot (record { words = f.words.items; base = f.base; level = f.level; used = f.used; held = f.held }) c.self.invariant.0))
 
 pub returns-clause-tree : goal.returns-clause-tree
 returns-clause-tree c =
     let f = c.self.inside in
-    let some : 0 < length f.words.items = omega (arith, c.self.invariant.long) in
+    let some : 0 < length f.words.items = omega (arith, c.self.invariant.0.long) in
     let top : c.index.result.now ≡ at_of f.words.items 0 = get_or_read f.words.items 0 c.index.result.now some c.index.ensures 0 in
     subst (λ (o : Stored). tree_under (inside_spot o c.index.result.now) ≡ tree_of o) c.self.view_is
     (root_under (record { words = f.words.items; base = f.base; level = f.level; used = f.used; held = f.held }) c.index.result.now top)
@@ -27,7 +27,7 @@ returns-clause-tree c =
 pub returns-clause-cells : goal.returns-clause-cells
 returns-clause-cells c =
     let f = c.self.inside in
-    let some : 0 < length f.words.items = omega (arith, c.self.invariant.long) in
+    let some : 0 < length f.words.items = omega (arith, c.self.invariant.0.long) in
     let top : c.index.result.now ≡ at_of f.words.items 0 = get_or_read f.words.items 0 c.index.result.now some c.index.ensures 0 in
     subst (λ (o : Stored). (d : ℕ) → HasCell o.words d → IsCellUnder (inside_spot o c.index.result.now) d) c.self.view_is
     (root_cells (record { words = f.words.items; base = f.base; level = f.level; used = f.used; held = f.held }) c.index.result.now top)
@@ -35,7 +35,7 @@ returns-clause-cells c =
 pub returns-clause-height : goal.returns-clause-height
 returns-clause-height c =
     let f = c.self.inside in
-    let some : 0 < length f.words.items = omega (arith, c.self.invariant.long) in
+    let some : 0 < length f.words.items = omega (arith, c.self.invariant.0.long) in
     let top : c.index.result.now ≡ at_of f.words.items 0 = get_or_read f.words.items 0 c.index.result.now some c.index.ensures 0 in
     subst (λ (o : Stored). height (tree_under (inside_spot o c.index.result.now)) ≤ 21) c.self.view_is
-    (spot_height (record { words = f.words.items; base = f.base; level = f.level; used = f.used; held = f.held }) c.index.result.now c.self.invariant top)
+    (spot_height (record { words = f.words.items; base = f.base; level = f.level; used = f.used; held = f.held }) c.index.result.now c.self.invariant.0 top)
