@@ -1,10 +1,9 @@
 -- The steps of building the cells that part two bodies.
 use Rattle.std.proofs.Common.{ℕ, ◌+◌, ◌*◌, ◌<◌, ◌≤◌, ◌≡◌, ◌≢◌, ◌⊎◌, suc, refl, sym, ◌∙◌, ap, subst, inl, inr, arith, List, length, slice_set, add-one}
-use Rattle.std.proofs.lemmas.Bool.{cases_lt}
-use Rattle.octant_code.specs.Space.{IsInCube, Site, key_of, octant_of}
+use Rattle.octant_code.specs.Space.{Site, key_of, octant_of}
 use Rattle.octant_code.specs.Points.{site_at, ArePoints}
 use Rattle.octant_code.proofs.Keys.{key-suc, octant-small}
-use Rattle.octant_code.proofs.InCube.{same_site}
+use Rattle.octant_code.proofs.Apart.{level_shallow}
 use Rattle.bh_model.proofs.Equal.{same_or_not}
 use Rattle.octree.proofs.Words.{at_past, at_set_other, at_set_same, set_length}
 use Rattle.octree.specs.Chain.{ArePair, IsOneOf, IsTaken}
@@ -14,38 +13,18 @@ use Rattle.tree_rule.proofs.Walk.{stands_same}
 use Rattle.tree_rule.specs.Flat.{IsShared, StandsFor}
 use Rattle.tree_rule.specs.Words.{at_of, body_word, cell_word, child_place, key_place}
 
--- two numbers of a list of points have different sites
-pub sites_differ : (sites : List Site) (x n : ℕ) → ArePoints sites → x < length sites → n < length sites → x ≢ n → site_at sites x ≢ site_at sites n
-sites_differ sites x n h p q d =
-    elim (cases_lt x n) [
-      | inl l ↦ h.apart x n l q
-      | inr l ↦ λ e. h.apart n x (omega arith) p (sym e)
-    ]
-
--- two bodies of one cube are not at the last level, where a cube is a point
-pub level_shallow : (sites : List Site) (x n level : ℕ) → ArePoints sites → IsInCube (site_at sites x) → IsInCube (site_at sites n) → x < length sites → n < length sites → x ≢ n → level ≤ 21
-    → key_of (site_at sites x) level ≡ key_of (site_at sites n) level → level ≤ 20
-level_shallow sites x n level h a b p q d l k =
-    elim (cases_lt level 21) [
-      | inl r ↦ omega arith
-      | inr r ↦
-          let last : level ≡ 21 = omega arith in
-          let both : key_of (site_at sites x) 21 ≡ key_of (site_at sites n) 21 = subst (λ (y : ℕ). key_of (site_at sites x) y ≡ key_of (site_at sites n) y) last k in
-          absurd (sites_differ sites x n h p q d (same_site (site_at sites x) (site_at sites n) a b both))
-    ]
-
 -- a body of the cube and of an octant of it is in the octant's cube
 octant_under : (s : Site) (key level a : ℕ) → key ≡ key_of s level → a ≡ octant_of s level → 8 * key + a ≡ key_of s (level + 1)
 octant_under s key level a k o = ap (λ y. 8 * y + a) k ∙ ap (λ y. 8 * key_of s level + y) o ∙ sym (ap (key_of s) (add-one level) ∙ key-suc s level)
 
 -- two bodies of one octant of the cube are in the octant's cube
-pub pair_deeper : (sites : List Site) (x n key level a : ℕ) → ArePoints sites → IsInCube (site_at sites x) → IsInCube (site_at sites n) → ArePair sites x n key level
+pub pair_deeper : (sites : List Site) (x n key level a : ℕ) → ArePoints sites → ArePair sites x n key level
     → a ≡ octant_of (site_at sites x) level → a ≡ octant_of (site_at sites n) level → ArePair sites x n (8 * key + a) (level + 1)
-pair_deeper sites x n key level a h p q pair o r =
+pair_deeper sites x n key level a rule pair o r =
     let ux = octant_under (site_at sites x) key level a pair.x_under o in
     let un = octant_under (site_at sites n) key level a pair.n_under r in
     record {
-      shallow = level_shallow sites x n (level + 1) h p q pair.x_in pair.n_in pair.differ (omega (arith, pair.shallow)) (sym ux ∙ un);
+      shallow = omega (arith, level_shallow sites x n (level + 1) rule pair.x_in pair.n_in pair.differ (omega (arith, pair.shallow)) (sym ux ∙ un));
       x_in = pair.x_in;
       n_in = pair.n_in;
       differ = pair.differ;
@@ -57,7 +36,7 @@ pair_deeper sites x n key level a h p q pair o r =
 pair_shares : (sites : List Site) (x n key level : ℕ) → ArePair sites x n key level → IsShared (site_at sites) (IsOneOf x n) key
 pair_shares sites x n key level pair = record {
   level = level;
-  shallow = pair.shallow;
+  shallow = omega (arith, pair.shallow);
   one = x;
   other = n;
   one_in = inl refl;

@@ -2,11 +2,12 @@
 use Rattle.std.proofs.Common.{ℕ, ◌+◌, ◌*◌, ◌/◌, ◌<◌, ◌≤◌, ◌≡◌, ◌≢◌, ◌⊎◌, ◌↔◌, refl, sym, ◌∙◌, ap, subst, inl, inr, arith, List, length, slice_set}
 use Rattle.bh_model.specs.Bodies.{IsIn, NoneTwice}
 use Rattle.bh_model.specs.Trees.{octree}
-use Rattle.octree.proofs.Chains.{level_shallow}
+use Rattle.octant_code.proofs.Apart.{level_shallow}
 use Rattle.octree.proofs.Locks.{unlocked_at_place}
 use Rattle.octree.proofs.Words.{at_set_other, at_set_same, set_length}
 use Rattle.octree.specs.Chain.{ArePair, IsOneOf, IsTaken}
-use Rattle.octree.specs.Stored.{AreUnlocked, IsCanonical, IsInserted, IsStored, StandsWell, Stored, tree_of}
+use Rattle.octree.specs.Stored.{IsCanonical, IsInserted, IsStored, StandsWell, Stored, tree_of}
+use Rattle.tree_rule.specs.Locks.{AreUnlocked}
 use Rattle.tree_rule.proofs.Canonical.{flat_gives_canonical}
 use Rattle.tree_rule.proofs.Graft.{Grafts, graft, key_apart, word_at_place}
 use Rattle.tree_rule.proofs.Parts.{Nothing, Only, stands_body}
@@ -14,7 +15,7 @@ use Rattle.tree_rule.proofs.Sound.{bodies_of_stands, sound_of_stands, stands_of_
 use Rattle.tree_rule.proofs.Walk.{body_reached, cell_reached, stands_moved, stands_same}
 use Rattle.tree_rule.specs.Flat.{ChildPlace, Either, IsPlaceOf, IsWordOf, StandsFor, TopPlace}
 use Rattle.tree_rule.specs.Words.{HasBody, HasCell, at_of, body_word, cell_word, child_place, key_place}
-use Rattle.octant_code.specs.Space.{IsInCube, IsUnder, Site, key_of}
+use Rattle.octant_code.specs.Space.{IsUnder, Site, key_of}
 use Rattle.octant_code.specs.Points.{site_at, ArePoints}
 use Rattle.octant_code.proofs.Keys.{same_level, level_of_key, pow8-mono}
 
@@ -242,15 +243,15 @@ body_in sites o n place level x h there body =
 
 -- where it names a body, that is another one of the cube
 pub body_case : (sites : List Site) (o : Stored) (n place level key x : ℕ) → CanInsert sites o n → IsPlaceIn sites o n (key_of (site_at sites n) o.level) level place
-    → at_of o.words place ≡ body_word x → IsInCube (site_at sites x) → IsInCube (site_at sites n) → level ≤ 21 → key ≡ key_of (site_at sites n) level → ArePair sites x n key level
-body_case sites o n place level key x h there body a b shallow is_key =
+    → at_of o.words place ≡ body_word x → level ≤ 21 → key ≡ key_of (site_at sites n) level → ArePair sites x n key level
+body_case sites o n place level key x h there body shallow is_key =
     let f = body_in sites o n place level x h there body in
     let l : f.1.0 ≡ level = same_level (site_at sites x) (site_at sites n) f.1.0 level (sym f.1.2) in
     let x_in : x < length sites = h.canonical.bodies_in x f.0 in
     let differ : x ≢ n = λ e. h.fresh (subst (λ (y : ℕ). HasBody o.words y) e f.0) in
     let together : key_of (site_at sites x) level ≡ key_of (site_at sites n) level = sym (f.1.2 ∙ ap (key_of (site_at sites x)) l) in
     record {
-      shallow = level_shallow sites x n level h.rule a b x_in h.n_in differ shallow together;
+      shallow = omega (arith, level_shallow sites x n level h.rule x_in h.n_in differ shallow together);
       x_in = x_in;
       n_in = h.n_in;
       differ = differ;

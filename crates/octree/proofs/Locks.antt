@@ -2,10 +2,9 @@
 use Rattle.std.proofs.Common.{ℕ, ◌+◌, ◌*◌, ◌<◌, ◌≤◌, ◌≡◌, ◌≢◌, ◌∙◌, ap, arith, inl, inr, List, length, slice_set}
 use Rattle.std.proofs.lemmas.Bool.{cases_lt}
 use Rattle.octree.proofs.Words.{at_past, at_set_other}
-use Rattle.octree.specs.Stored.{AreUnlocked}
+use Rattle.tree_rule.specs.Locks.{AreUnlocked}
 use Rattle.tree_rule.specs.Flat.{ChildPlace, IsPlaceOf, TopPlace}
-use Rattle.tree_rule.specs.Naming.{lock_place}
-use Rattle.tree_rule.specs.Words.{at_of, child_place}
+use Rattle.tree_rule.specs.Words.{lock_place, at_of, child_place}
 
 -- a word elsewhere
 pub unlocked_other : (words : List ℕ) (cells i v : ℕ) → AreUnlocked words cells → 1 ≢ i → 2 ≢ i → ((c : ℕ) → lock_place c ≢ i) → AreUnlocked (slice_set words i v) cells

@@ -3,7 +3,7 @@ use Rattle.std.proofs.Common.{inl, inr, ℕ, ◌+◌, ◌*◌, ◌^◌, ◌<◌,
 use Rattle.std.proofs.lemmas.Bool.{cases_lt}
 use Rattle.std.proofs.lemmas.List.{get_or-replicate, get_or_past, length-replicate, get_or_read}
 use Rattle.octree.specs.Stored.{IsStored, Stored}
-use Rattle.tree_rule.specs.Naming.{lock_place}
+use Rattle.tree_rule.specs.Words.{lock_place}
 use Rattle.tree_rule.proofs.Canonical.{ACell, NoBody, OneBody, word_is}
 use Rattle.tree_rule.proofs.Sound.{forget}
 use Rattle.tree_rule.specs.Sound.{IsReachedAs, IsSound}

@@ -5,9 +5,10 @@ use Rattle.std.proofs.lemmas.List.{get_or-replicate, get_or-append_right, get_or
 use Rattle.octant_code.proofs.Keys.{pow8-mono}
 use Rattle.octree.proofs.Locks.{unlocked_more}
 use Rattle.octree.proofs.Words.{at_longer, at_past}
-use Rattle.octree.specs.Stored.{AreOctreeWords, AreUnlocked, IsBlankFrom, IsStored, Stored, all_used, all_words, full_tree, spare_of, tree_with_used}
+use Rattle.octree.specs.Stored.{AreOctreeWords, IsBlankFrom, IsStored, Stored, all_used, all_words, full_tree, spare_of, tree_with_used}
+use Rattle.tree_rule.specs.Locks.{AreUnlocked}
 use Rattle.tree_rule.proofs.Sound.{recall}
-use Rattle.tree_rule.specs.Naming.{lock_place}
+use Rattle.tree_rule.specs.Words.{lock_place}
 use Rattle.tree_rule.specs.Sound.{IsSound}
 use Rattle.tree_rule.specs.Words.{Below, HasBody, HasCell, Here, IsReached, at_of, body_word, cell_word, child_place}
 

@@ -2,6 +2,7 @@
 use Rattle.std.specs.Prelude.{ℕ, ◌<◌, ◌≤◌, ◌≡◌, ◌≢◌, ◌⊎◌, List, length, Option, None, Some}
 use Rattle.octant_code.specs.Space.{Site, key_of}
 use Rattle.octant_code.specs.Points.{site_at}
+use Rattle.octant_code.specs.declared.limits.TheConstants.{LEVELS}
 use Rattle.tree_rule.specs.Words.{body_word}
 
 -- the word names the body, or nothing
@@ -19,7 +20,7 @@ IsTaken from to c = (from ≤ c) × (c < to)
 
 -- Two bodies of a list lie in the cube of a key, which is of one of the levels that cells have.
 pub record ArePair (sites : List Site) (x n key level : ℕ) : Type 0 where
-  pub shallow : level ≤ 20
+  pub shallow : level < LEVELS
   pub x_in : x < length sites
   pub n_in : n < length sites
   pub differ : x ≢ n

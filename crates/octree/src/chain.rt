@@ -4,16 +4,19 @@ ghost use Rattle.std.specs.Prelude.{◌≡◌, ◌+◌, ◌-◌, ◌*◌, ◌/�
 ghost use Rattle.octant_code.specs.Points.{site_at, ArePoints};
 ghost use Rattle.tree_rule.specs.Words.{at_of, cell_word};
 ghost use Rattle.tree_rule.specs.Flat.{StandsFor};
-ghost use Rattle.octree.specs.Stored.{AreUnlocked};
+ghost use Rattle.octree.specs.Stored.{cell_count_of, word_count};
+ghost use Rattle.tree_rule.specs.Locks.{AreUnlocked};
 ghost use Rattle.octree.specs.Chain.{ArePair, IsOneOf, IsTaken};
 
-use octant_code::{Points, octant};
-use tree_rule::{place_of_child, place_of_key, word_of_body, word_of_cell};
+use octant_code::{LEVELS, Points, octant};
+use tree_rule::{
+    CELL_WORDS, FIRST_PLACE, MOST_CELLS, place_of_child, place_of_key, word_of_body, word_of_cell,
+};
 
 /// How many words so many cells have, with the three in front of them.
 #[inline]
 pub fn words_of_cells(cells: u32) -> usize
-    ensures { result ≡ 3 + 10 * cells }
+    ensures { result ≡ word_count cells }
 {
     place_of_child(cells, 0)
 }
@@ -21,21 +24,21 @@ pub fn words_of_cells(cells: u32) -> usize
 /// How many cells have so many words, with the three in front of them.
 #[inline]
 pub fn cells_of_words(count: usize) -> u32
-    requires front { 3 ≤ count }
-    requires few { count ≤ 13762563 }
-    ensures { result ≡ (count - 3) / 10 }
+    requires front { FIRST_PLACE ≤ count }
+    requires few { count ≤ word_count MOST_CELLS }
+    ensures { result ≡ cell_count_of count }
 {
-    ((count - 3) / 10) as u32
+    ((count - FIRST_PLACE) / CELL_WORDS) as u32
 }
 
 /// Appends the words of one more cell, which are 0. It takes no memory.
 #[inline]
 fn add_cell(words: &mut Vec<u64>, cell: u32)
-    requires few { cell < 1376256 }
-    requires len { length words.old.items ≡ 3 + 10 * cell }
-    requires room { 3 + 10 * (cell + 1) ≤ vec_capacity words.old }
+    requires few { cell < MOST_CELLS }
+    requires len { length words.old.items ≡ word_count cell }
+    requires room { word_count (cell + 1) ≤ vec_capacity words.old }
     ensures same { at_of words.new.items ≡ at_of words.old.items }
-    ensures len { length words.new.items ≡ 3 + 10 * (cell + 1) }
+    ensures len { length words.new.items ≡ word_count (cell + 1) }
     ensures room { vec_capacity words.old ≤ vec_capacity words.new }
 {
     match words.resize(words_of_cells(cell + 1), 0) {
@@ -55,18 +58,18 @@ pub struct Cube {
 /// used cells. The first of them is the top one; the result is how many cells are used then. It
 /// takes no memory.
 pub fn part_two(words: &mut Vec<u64>, used: u32, points: &Points, x: u32, n: u32, cube: Cube) -> u32
-    requires few { used + (21 - cube.level) ≤ 1376256 }
-    requires len { length words.old.items ≡ 3 + 10 * used }
-    requires room { 3 + 10 * (used + (21 - cube.level)) ≤ vec_capacity words.old }
+    requires few { used + (LEVELS - cube.level) ≤ MOST_CELLS }
+    requires len { length words.old.items ≡ word_count used }
+    requires room { word_count (used + (LEVELS - cube.level)) ≤ vec_capacity words.old }
     requires unlocked { AreUnlocked words.old.items used }
     requires rule { ArePoints points.now }
     requires pair { ArePair points.now x n cube.key cube.level }
-    ensures len { length words.new.items ≡ 3 + 10 * result }
+    ensures len { length words.new.items ≡ word_count result }
     ensures room { vec_capacity words.old ≤ vec_capacity words.new }
-    ensures kept { (i : ℕ) → i < 3 + 10 * used → at_of words.new.items i ≡ at_of words.old.items i }
+    ensures kept { (i : ℕ) → i < word_count used → at_of words.new.items i ≡ at_of words.old.items i }
     ensures unlocked { AreUnlocked words.new.items result }
     ensures more { used < result }
-    ensures few { result ≤ used + (21 - cube.level) }
+    ensures few { result ≤ used + (LEVELS - cube.level) }
     ensures stands { StandsFor (site_at points.now) (at_of words.new.items) (cell_word used) cube.key (IsTaken used result) (IsOneOf x n) }
 {
     let q = points.at(x);

@@ -6,9 +6,10 @@ ghost use Rattle.octant_code.specs.Points.{site_at};
 ghost use Rattle.tree_rule.specs.Words.{at_of, HasCell, HasBody, IsReached};
 ghost use Rattle.tree_rule.specs.Flat.{IsPlaceOf, StandsFor};
 ghost use Rattle.octree.specs.Chain.{NamesNoCell};
+ghost use Rattle.octree.specs.Stored.{word_count};
 
-use octant_code::{Points, octant};
-use tree_rule::{Named, named_by, place_of_child};
+use octant_code::{LEVELS, Points, octant};
+use tree_rule::{FIRST_PLACE, Named, named_by, place_of_child};
 
 /// Where the way down to a point ends: the place of the word there, the level of its cube, and the
 /// body that it names, if it names one.
@@ -23,14 +24,14 @@ pub struct WayEnd {
 /// cube is of the level `from`.
 pub fn find_place(words: &Vec<u64>, from: u32, points: &Points, n: u32) -> WayEnd
     requires n_in { n < length points.now }
-    requires shallow { from ≤ 21 }
+    requires shallow { from ≤ LEVELS }
     requires stands { StandsFor (site_at points.now) (at_of words.now.items) (at_of words.now.items 0) (key_of (site_at points.now n) from) (HasCell words.now.items) (HasBody words.now.items) }
     requires small { (w : ℕ) → IsReached (at_of words.now.items) (at_of words.now.items 0) w → w < 2 ^ 33 }
-    requires first { 3 ≤ length words.now.items }
-    requires room { (c : ℕ) → HasCell words.now.items c → 3 + 10 * (c + 1) ≤ length words.now.items }
+    requires first { FIRST_PLACE ≤ length words.now.items }
+    requires room { (c : ℕ) → HasCell words.now.items c → word_count (c + 1) ≤ length words.now.items }
     ensures there { IsPlaceOf (at_of words.now.items) 0 (key_of (site_at points.now n) from) (HasCell words.now.items) (key_of (site_at points.now n) result.level) result.place }
     ensures named { NamesNoCell (at_of words.now.items result.place) result.body }
-    ensures shallow { result.level ≤ 21 }
+    ensures shallow { result.level ≤ LEVELS }
     ensures below { from ≤ result.level }
     ensures inside { result.place < length words.now.items }
 {

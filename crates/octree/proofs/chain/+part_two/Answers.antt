@@ -1,5 +1,5 @@
 use Rattle.std.proofs.Common.{ℕ, arith, ◌≡◌, ◌+◌, ◌*◌, ◌∙◌, ap, slice_set, subst, sym}
-use Rattle.octant_code.specs.Space.{IsInCube, Site, octant_of}
+use Rattle.octant_code.specs.Space.{octant_of}
 use Rattle.octant_code.specs.Points.{site_at}
 use Rattle.octant_code.proofs.Keys.{key-next-fits}
 use Rattle.octree.proofs.Chains.{forked, linked, pair_deeper}
@@ -28,10 +28,8 @@ overflow_add-inner t c = omega (arith, key-next-fits (site_at c.args.points.now 
 pub part_two-requires : goal.part_two-requires
 part_two-requires t c =
     let sites = c.args.points.now in
-    let inside_x : IsInCube (site_at sites c.args.x) = subst (λ (s : Site). IsInCube s) c.at-q.ensures.value c.at-q.ensures.inside in
-    let inside_n : IsInCube (site_at sites c.args.n) = subst (λ (s : Site). IsInCube s) c.at-p.ensures.value c.at-p.ensures.inside in
     let d = goal.at.part_two-requires t c in
-    let pair = pair_deeper sites c.args.x c.args.n c.args.cube.key c.args.cube.level c.octant-b.result c.requires.rule inside_x inside_n c.requires.pair (sym c.if-a-b.true ∙ octant_x t d.After-add_cell) (octant_n t d.After-add_cell) in
+    let pair = pair_deeper sites c.args.x c.args.n c.args.cube.key c.args.cube.level c.octant-b.result c.requires.rule c.requires.pair (sym c.if-a-b.true ∙ octant_x t d.After-add_cell) (octant_n t d.After-add_cell) in
     let first = c.add_cell.new.words.items in
     let added = unlocked_more c.args.words.now.items first c.args.used (c.args.used + 1) c.requires.unlocked c.requires.len c.add_cell.ensures.same in
     let keyed = unlocked_in_cell first (c.args.used + 1) c.args.used 8 c.place_of_key.result c.args.cube.key added (omega (arith, c.place_of_key.ensures)) (omega arith) in

@@ -1,7 +1,7 @@
 use Rattle.std.proofs.Common.{arith, ◌≡◌, ◌+◌, ◌≤◌, ◌∙◌, ℕ, Option, ap, slice_set, sym, subst}
-use Rattle.octant_code.specs.Space.{IsInCube, Site, key_of}
+use Rattle.octant_code.specs.Space.{key_of}
 use Rattle.octant_code.specs.Points.{site_at}
-use Rattle.octree.proofs.Inserts.{CanInsert, IsDone, body_case, body_in, can_insert, empty_case, parted_case, stands_now, with_words}
+use Rattle.octree.proofs.Inserts.{CanInsert, IsDone, body_case, can_insert, empty_case, parted_case, stands_now, with_words}
 use Rattle.octree.proofs.ReadWords.{word_small}
 use Rattle.octree.specs.Chain.{IsOneOf, IsTaken, NamesNoCell}
 use Rattle.octree.specs.Stored.{Stored}
@@ -69,21 +69,12 @@ find_place-end-requires-clause-small c =
 pub invariant_of-self : goal.invariant_of-self
 invariant_of-self c = ((none_done c).stored, c.self.invariant.1)
 
-pub at-other-requires : goal.at-other-requires
-at-other-requires c =
-    let d = goal.at.at-other-requires c in
-    (can d.After-find_place-end).canonical.bodies_in c.in-Some.x
-    (body_in c.args.points.now (here d.After-find_place-end) c.args.n c.find_place-end.result.place c.find_place-end.result.level c.in-Some.x (can d.After-find_place-end)
-    c.find_place-end.ensures.there (body_end d.In-Some)).0
-
 pub part_two-next-requires-clause-pair : goal.part_two-next-requires-clause-pair
 part_two-next-requires-clause-pair c =
     let d = goal.at.part_two-next-requires-clause-pair c in
     let end = c.find_place-end in
-    let inside_x : IsInCube (site_at c.args.points.now c.in-Some.x) = subst (λ (s : Site). IsInCube s) c.at-other.ensures.value c.at-other.ensures.inside in
-    let inside_n : IsInCube (site_at c.args.points.now c.args.n) = subst (λ (s : Site). IsInCube s) c.at.ensures.value c.at.ensures.inside in
     body_case c.args.points.now (here d.After-find_place-end) c.args.n end.result.place end.result.level c.key_at.result c.in-Some.x (can d.After-find_place-end) end.ensures.there
-    (body_end d.In-Some) inside_x inside_n end.ensures.shallow (c.key_at.ensures ∙ ap (λ s. key_of s end.result.level) c.at.ensures.value)
+    (body_end d.In-Some) end.ensures.shallow (c.key_at.ensures ∙ ap (λ s. key_of s end.result.level) c.at.ensures.value)
 
 pub invariant_of-self-in-Some : goal.invariant_of-self-in-Some
 invariant_of-self-in-Some c = ((some_done c).stored, omega (arith, c.self.invariant.1, c.part_two-next.ensures.room))

@@ -7,7 +7,7 @@ pub invariant_of-result : goal.invariant_of-result
 invariant_of-result c =
     let items = c.args.words.items in
     let len : c.len.result ≡ length items = c.len.ensures ∙ c.args.words.ok.0 in
-    let held : (length items - 3) / 10 ≡ c.cells_of_words-held.result = omega (arith, len, c.cells_of_words-held.ensures) in
+    let held : (length items - 3) / 10 ≡ c.cells_of_words-cells.result = omega (arith, len, c.cells_of_words-cells.ensures) in
     let words : take (3 + 10 * c.args.used) items ≡ c.truncate.new.self.items = ap (λ n. take n items) (sym c.words_of_cells.ensures) ∙ sym c.truncate.ensures.items in
     let room : vec_len c.args.words ≤ vec_capacity c.args.words = c.args.words.ok.1 in (
       subst (λ (n : ℕ). IsStored (record { words = c.truncate.new.self.items; base = 1; level = 0; used = c.args.used; held = n })) held
