@@ -1,20 +1,21 @@
 -- What an insertion leaves.
-use Rattle.std.proofs.Common.{ℕ, ◌+◌, ◌*◌, ◌/◌, ◌<◌, ◌≤◌, ◌≡◌, ◌≢◌, ◌⊎◌, ◌↔◌, refl, sym, ◌∙◌, ap, subst, inl, inr, arith, List, length, slice_set, slice_index_or}
-use Rattle.std.proofs.lemmas.List.{get_or_read}
+use Rattle.std.proofs.Common.{ℕ, ◌+◌, ◌*◌, ◌/◌, ◌<◌, ◌≤◌, ◌≡◌, ◌≢◌, ◌⊎◌, ◌↔◌, refl, sym, ◌∙◌, ap, subst, inl, inr, arith, List, length, slice_set}
 use Rattle.bh_model.specs.Bodies.{IsIn, NoneTwice}
 use Rattle.bh_model.specs.Trees.{octree}
+use Rattle.octant_code.proofs.Apart.{level_shallow}
 use Rattle.octree.proofs.Locks.{unlocked_at_place}
 use Rattle.octree.proofs.Words.{at_set_other, at_set_same, set_length}
-use Rattle.octree.specs.Chain.{IsOneOf, IsTaken}
-use Rattle.octree.specs.Stored.{AreUnlocked, IsBlankFrom, IsCanonical, IsInserted, IsStored, StandsWell, Stored, tree_of}
-use Rattle.tree_rule.proofs.Canonical.{ACell, NoBody, OneBody, flat_gives_canonical, word_is}
+use Rattle.octree.specs.Chain.{ArePair, IsOneOf, IsTaken}
+use Rattle.octree.specs.Stored.{IsCanonical, IsInserted, IsStored, StandsWell, Stored, tree_of}
+use Rattle.tree_rule.specs.Locks.{AreUnlocked}
+use Rattle.tree_rule.proofs.Canonical.{flat_gives_canonical}
 use Rattle.tree_rule.proofs.Graft.{Grafts, graft, key_apart, word_at_place}
 use Rattle.tree_rule.proofs.Parts.{Nothing, Only, stands_body}
 use Rattle.tree_rule.proofs.Sound.{bodies_of_stands, sound_of_stands, stands_of_sound}
 use Rattle.tree_rule.proofs.Walk.{body_reached, cell_reached, stands_moved, stands_same}
 use Rattle.tree_rule.specs.Flat.{ChildPlace, Either, IsPlaceOf, IsWordOf, StandsFor, TopPlace}
 use Rattle.tree_rule.specs.Words.{HasBody, HasCell, at_of, body_word, cell_word, child_place, key_place}
-use Rattle.octant_code.specs.Space.{Site, key_of, IsUnder}
+use Rattle.octant_code.specs.Space.{IsUnder, Site, key_of}
 use Rattle.octant_code.specs.Points.{site_at, ArePoints}
 use Rattle.octant_code.proofs.Keys.{same_level, level_of_key, pow8-mono}
 
@@ -89,30 +90,6 @@ insert_body sites words next base key place used to x n v h few kept there insid
       changed = record { now = at_set_same next place place v refl inside ∙ is; others = other };
     })
 
--- the body that a word names, beside another body of its cube
-pub record Meets (sites : List Site) (x n level : ℕ) : Type 0 where
-  pub x_in : x < length sites
-  pub together : key_of (site_at sites x) level ≡ key_of (site_at sites n) level
-
--- a word that names a body lies beside the other body of its cube
-pub meets : (sites : List Site) (words : List ℕ) (base place level x n : ℕ) → ArePoints sites → StandsWell sites words base
-    → ((m : ℕ) → HasBody words m → m < length sites) → IsPlaceOf (at_of words) 0 base (HasCell words) (key_of (site_at sites n) level) place
-    → at_of words place ≡ body_word x → n < length sites → level ≤ 21 → (HasBody words n → ⊥) → Meets sites x n level
-meets sites words base place level x n rule h within there body n_in level_in fresh =
-    let site : ℕ → Site = site_at sites in
-    let key : ℕ = key_of (site n) level in
-    let w : IsWordOf (at_of words) (at_of words 0) base (HasCell words) key (body_word x) =
-    subst (λ (y : ℕ). IsWordOf (at_of words) (at_of words 0) base (HasCell words) key y) body (word_at_place (at_of words) 0 base (HasCell words) key place there) in
-    let f = h.names_body key x w in
-    let l : f.1.0 ≡ level = same_level (site x) (site n) f.1.0 level (sym f.1.2) in
-    let both : key_of (site x) level ≡ key_of (site n) level = sym (f.1.2 ∙ ap (key_of (site x)) l) in
-    let x_in : x < length sites = within x f.0 in
-    let differ : x ≢ n = λ e. fresh (subst (λ (y : ℕ). HasBody words y) e f.0) in
-    record {
-      x_in = x_in;
-      together = both;
-    }
-
 -- the octree after an insertion
 pub record IsDone (sites : List Site) (n : ℕ) (before after : Stored) : Type 0 where
   pub stored : IsStored after
@@ -140,7 +117,6 @@ done_empty sites o n place level v h canon n_in size there inside shallow empty 
     let key : ℕ = key_of (site_at sites n) level in
     let after : List ℕ = slice_set o.words place v in
     let g = insert_empty sites o.words o.base key place n v (stands_of sites o h canon) there inside empty (level, shallow, refl) is in
-    let low : place < 3 + 10 * o.used = place_used o.words o.base key place o.used h.cells_used there in
     record {
       stored = record {
         few = h.few;
@@ -150,8 +126,7 @@ done_empty sites o n place level v h canon n_in size there inside shallow empty 
         base_low = h.base_low;
         base_high = h.base_high;
         sound = sound_of_stands (site_at sites) (at_of after) (at_of after 0) o.base (HasCell after) (HasBody after) g.stands;
-        blank = λ i l. at_set_other o.words place i v (λ e. omega arith) ∙ h.blank i l;
-        unlocked = unlocked_at_place o.words (at_of o.words) o.base (HasCell o.words) key place v h.unlocked there;
+        unlocked = unlocked_at_place o.words o.used (at_of o.words) o.base (HasCell o.words) key place v h.unlocked there;
         cells_used = λ c p. elim ((g.cells c).0 p) [ inl q ↦ h.cells_used c q | inr q ↦ absurd q ];
         bodies_small = λ m b. elim ((g.bodies m).0 b) [ inl q ↦ h.bodies_small m q | inr q ↦ omega arith ];
       };
@@ -173,13 +148,12 @@ done_empty sites o n place level v h canon n_in size there inside shallow empty 
 -- the word of a body was found at a level, and the two bodies were parted
 pub done_body : (sites : List Site) (o : Stored) (next : List ℕ) (x n place level to v : ℕ) → IsStored o → IsCanonical sites o → n < length sites → length sites ≤ 65536
     → IsPlaceOf (at_of o.words) 0 o.base (HasCell o.words) (key_of (site_at sites n) level) place → place < length o.words → at_of o.words place ≡ body_word x
-    → length next ≡ length o.words → ((i : ℕ) → i < 3 + 10 * o.used → at_of next i ≡ at_of o.words i) → IsBlankFrom next to → AreUnlocked next → o.used < to → to ≤ o.used + 21 → to ≤ o.held
+    → length next ≡ 3 + 10 * to → ((i : ℕ) → i < 3 + 10 * o.used → at_of next i ≡ at_of o.words i) → AreUnlocked next to → o.used < to → to ≤ o.used + 21 → to ≤ o.held
     → StandsFor (site_at sites) (at_of next) (cell_word o.used) (key_of (site_at sites n) level) (IsTaken o.used to) (IsOneOf x n) → v ≡ cell_word o.used
     → IsDone sites n o (with_words o (slice_set next place v) to)
-done_body sites o next x n place level to v h canon n_in size there inside body len kept blank unlocked more few fits sub is =
+done_body sites o next x n place level to v h canon n_in size there inside body len kept unlocked more few fits sub is =
     let key : ℕ = key_of (site_at sites n) level in
-    let g = insert_body sites o.words next o.base key place o.used to x n v (stands_of sites o h canon) h.cells_used kept there (omega (arith, len)) body sub is in
-    let low : place < 3 + 10 * o.used = place_used o.words o.base key place o.used h.cells_used there in
+    let g = insert_body sites o.words next o.base key place o.used to x n v (stands_of sites o h canon) h.cells_used kept there (omega (arith, len, h.long)) body sub is in
     let had : HasBody o.words x = ((stands_of sites o h canon).names_body key x
     (subst (λ (y : ℕ). IsWordOf (at_of o.words) (at_of o.words 0) o.base (HasCell o.words) key y) body (word_at_place (at_of o.words) 0 o.base (HasCell o.words) key place there))).0 in
     let split : (m : ℕ) → HasBody o.words m ⊎ IsOneOf x n m → HasBody o.words m ⊎ (m ≡ n) = λ m b. elim b [
@@ -190,14 +164,13 @@ done_body sites o next x n place level to v h canon n_in size there inside body 
     record {
       stored = record {
         few = h.few;
-        long = set_length next place v ∙ len ∙ h.long;
+        long = set_length next place v ∙ len;
         used_held = fits;
         shallow = h.shallow;
         base_low = h.base_low;
         base_high = h.base_high;
         sound = sound_of_stands (site_at sites) (at_of after) (at_of after 0) o.base (HasCell after) (HasBody after) g.stands;
-        blank = λ i l. at_set_other next place i v (λ e. omega arith) ∙ blank i l;
-        unlocked = unlocked_at_place next (at_of o.words) o.base (HasCell o.words) key place v unlocked there;
+        unlocked = unlocked_at_place next to (at_of o.words) o.base (HasCell o.words) key place v unlocked there;
         cells_used = λ c p. elim ((g.cells c).0 p) [ inl q ↦ omega (arith, h.cells_used c q) | inr q ↦ q.1 ];
         bodies_small = λ m b. elim (split m ((g.bodies m).0 b)) [ inl q ↦ h.bodies_small m q | inr q ↦ omega arith ];
       };
@@ -216,106 +189,84 @@ done_body sites o next x n place level to v h canon n_in size there inside body 
       };
     }
 
--- what is known of an octree when a body is to be inserted, where `before` is its value and `o` are its fields
-pub record CanInsert (sites : List Site) (before o : Stored) (n : ℕ) : Type 0 where
-  pub value : o ≡ before
+-- what is known of an octree when a body is to be inserted
+pub record CanInsert (sites : List Site) (o : Stored) (n : ℕ) : Type 0 where
   pub stored : IsStored o
   pub rule : ArePoints sites
   pub n_in : n < length sites
-  pub under : IsUnder before.base (site_at sites n)
-  pub canonical : IsCanonical sites before
-  pub fresh : HasBody before.words n → ⊥
+  pub under : IsUnder o.base (site_at sites n)
+  pub canonical : IsCanonical sites o
+  pub fresh : HasBody o.words n → ⊥
 
--- an octree by its fields
-abbrev pub stored : List ℕ → ℕ → ℕ → ℕ → ℕ → Stored
-stored words base level used held = record { words = words; base = base; level = level; used = used; held = held }
-
--- what an insertion may rest on, fact by fact
+-- what an insertion may rest on, where `before` is the octree and `o` are its fields
 pub can_insert : (sites : List Site) (before o : Stored) (n : ℕ) → o ≡ before → IsStored o → ArePoints sites → n < length sites → IsUnder before.base (site_at sites n)
-    → IsCanonical sites before → (HasBody before.words n → ⊥) → CanInsert sites before o n
-can_insert sites before o n v s r i u c f = record { value = v; stored = s; rule = r; n_in = i; under = u; canonical = c; fresh = f }
-
--- the octree as it is stored is canonical
-pub canonical_now : (sites : List Site) (before o : Stored) (n : ℕ) → CanInsert sites before o n → IsCanonical sites o
-canonical_now sites before o n h = subst (λ (y : Stored). IsCanonical sites y) (sym h.value) h.canonical
+    → IsCanonical sites before → (HasBody before.words n → ⊥) → CanInsert sites o n
+can_insert sites before o n e stored rule n_in under canonical fresh = record {
+  stored = stored;
+  rule = rule;
+  n_in = n_in;
+  under = subst (λ (y : Stored). IsUnder y.base (site_at sites n)) (sym e) under;
+  canonical = subst (λ (y : Stored). IsCanonical sites y) (sym e) canonical;
+  fresh = λ b. fresh (subst (λ (y : Stored). HasBody y.words n) e b);
+}
 
 -- its cube holds the point
-pub base_now : (sites : List Site) (before o : Stored) (n : ℕ) → CanInsert sites before o n → o.base ≡ key_of (site_at sites n) o.level
-base_now sites before o n h = base_is o (site_at sites n) h.stored (subst (λ (y : Stored). IsUnder y.base (site_at sites n)) (sym h.value) h.under)
+pub base_now : (sites : List Site) (o : Stored) (n : ℕ) → CanInsert sites o n → o.base ≡ key_of (site_at sites n) o.level
+base_now sites o n h = base_is o (site_at sites n) h.stored h.under
 
 -- its words stand for its bodies, below that cube
-pub stands_now : (sites : List Site) (before o : Stored) (n : ℕ) → CanInsert sites before o n → StandsWell sites o.words (key_of (site_at sites n) o.level)
-stands_now sites before o n h = subst (λ (y : ℕ). StandsWell sites o.words y) (base_now sites before o n h) (stands_of sites o h.stored (canonical_now sites before o n h))
+pub stands_now : (sites : List Site) (o : Stored) (n : ℕ) → CanInsert sites o n → StandsWell sites o.words (key_of (site_at sites n) o.level)
+stands_now sites o n h = subst (λ (y : ℕ). StandsWell sites o.words y) (base_now sites o n h) (stands_of sites o h.stored h.canonical)
 
--- the place that was found
-pub record Found (sites : List Site) (o : Stored) (n place level word : ℕ) : Type 0 where
-  pub there : IsPlaceOf (at_of o.words) 0 (key_of (site_at sites n) o.level) (HasCell o.words) (key_of (site_at sites n) level) place
-  pub no_cell : (c : ℕ) → at_of o.words place ≡ cell_word c → ⊥
-  pub shallow : level ≤ 21
-  pub inside : place < length o.words
-  pub is : word ≡ slice_index_or o.words place word
+-- the place below the root whose cube holds the point
+abbrev pub IsPlaceIn : List Site → Stored → ℕ → ℕ → ℕ → ℕ → Type 0
+IsPlaceIn sites o n base level place = IsPlaceOf (at_of o.words) 0 base (HasCell o.words) (key_of (site_at sites n) level) place
 
--- and the place, fact by fact
-pub found_at : (sites : List Site) (o : Stored) (n place level word : ℕ) → IsPlaceOf (at_of o.words) 0 (key_of (site_at sites n) o.level) (HasCell o.words) (key_of (site_at sites n) level) place
-    → ((c : ℕ) → at_of o.words place ≡ cell_word c → ⊥) → level ≤ 21 → place < length o.words → word ≡ slice_index_or o.words place word → Found sites o n place level word
-found_at sites o n place level word t c s i e = record { there = t; no_cell = c; shallow = s; inside = i; is = e }
-
--- the place that was found is one below its cube
-pub there_now : (sites : List Site) (before o : Stored) (n place level word : ℕ) → CanInsert sites before o n → Found sites o n place level word
-    → IsPlaceOf (at_of o.words) 0 o.base (HasCell o.words) (key_of (site_at sites n) level) place
-there_now sites before o n place level word h f =
-    subst (λ (y : ℕ). IsPlaceOf (at_of o.words) 0 y (HasCell o.words) (key_of (site_at sites n) level) place) (sym (base_now sites before o n h)) f.there
+-- it is one below the octree's cube
+there_now : (sites : List Site) (o : Stored) (n place level : ℕ) → CanInsert sites o n → IsPlaceIn sites o n (key_of (site_at sites n) o.level) level place → IsPlaceIn sites o n o.base level place
+there_now sites o n place level h there = subst (λ (y : ℕ). IsPlaceIn sites o n y level place) (sym (base_now sites o n h)) there
 
 -- where the word is empty, the body takes its place
-pub empty_case : (sites : List Site) (before o : Stored) (n place level word v : ℕ) → CanInsert sites before o n → Found sites o n place level word → word ≡ 0 → v ≡ body_word n
-    → IsDone sites n before (with_words o (slice_set o.words place v) o.used)
-empty_case sites before o n place level word v h f empty is =
-    subst (λ (y : Stored). IsDone sites n y (with_words o (slice_set o.words place v) o.used)) h.value
-    (done_empty sites o n place level v h.stored (canonical_now sites before o n h) h.n_in h.rule.few (there_now sites before o n place level word h f) f.inside f.shallow
-    (sym (get_or_read o.words place word f.inside f.is 0) ∙ empty) is)
+pub empty_case : (sites : List Site) (o : Stored) (n place level v : ℕ) → CanInsert sites o n → IsPlaceIn sites o n (key_of (site_at sites n) o.level) level place
+    → place < length o.words → level ≤ 21 → at_of o.words place ≡ 0 → v ≡ body_word n → IsDone sites n o (with_words o (slice_set o.words place v) o.used)
+empty_case sites o n place level v h there inside shallow empty is =
+    done_empty sites o n place level v h.stored h.canonical h.n_in h.rule.few (there_now sites o n place level h there) inside shallow empty is
 
--- a word that is not empty names a body beside the one to be inserted
-pub record IsBeside (sites : List Site) (o : Stored) (n place level word : ℕ) : Type 0 where
-  pub named : at_of o.words place ≡ body_word (word / 2)
-  pub meets : Meets sites (word / 2) n level
-  pub differ : word / 2 ≢ n
-  pub small : word / 2 < 65536
+-- the number of the body that a word names is that of a point
+pub body_in : (sites : List Site) (o : Stored) (n place level x : ℕ) → CanInsert sites o n → IsPlaceIn sites o n (key_of (site_at sites n) o.level) level place
+    → at_of o.words place ≡ body_word x → HasBody o.words x × IsUnder (key_of (site_at sites n) level) (site_at sites x)
+body_in sites o n place level x h there body =
+    let base : ℕ = key_of (site_at sites n) o.level in
+    let key : ℕ = key_of (site_at sites n) level in
+    (stands_now sites o n h).names_body key x
+    (subst (λ (y : ℕ). IsWordOf (at_of o.words) (at_of o.words 0) base (HasCell o.words) key y) body (word_at_place (at_of o.words) 0 base (HasCell o.words) key place there))
 
--- where it is not, it names another body of the cube
-pub body_case : (sites : List Site) (before o : Stored) (n place level word : ℕ) → CanInsert sites before o n → Found sites o n place level word → word ≢ 0
-    → IsBeside sites o n place level word
-body_case sites before o n place level word h f some =
-    let canon = canonical_now sites before o n h in
-    let stands : StandsWell sites o.words o.base = stands_of sites o h.stored canon in
-    let there = there_now sites before o n place level word h f in
-    let is : word ≡ at_of o.words place = get_or_read o.words place word f.inside f.is 0 in
-    let odd : word ≡ body_word (word / 2) = elim (word_is word) [
-      | NoBody e ↦ absurd (some e)
-      | OneBody m e ↦ omega arith
-      | ACell c e ↦ absurd (f.no_cell c (sym is ∙ e))
-    ] in
-    let named : at_of o.words place ≡ body_word (word / 2) = sym is ∙ odd in
-    let fresh : HasBody o.words n → ⊥ = λ b. h.fresh (subst (λ (y : Stored). HasBody y.words n) h.value b) in
-    let m = meets sites o.words o.base place level (word / 2) n h.rule stands canon.bodies_in there named h.n_in f.shallow fresh in
-    let had : HasBody o.words (word / 2) = (stands.names_body (key_of (site_at sites n) level) (word / 2)
-    (subst (λ (y : ℕ). IsWordOf (at_of o.words) (at_of o.words 0) o.base (HasCell o.words) (key_of (site_at sites n) level) y) named
-    (word_at_place (at_of o.words) 0 o.base (HasCell o.words) (key_of (site_at sites n) level) place there))).0 in
+-- where it names a body, that is another one of the cube
+pub body_case : (sites : List Site) (o : Stored) (n place level key x : ℕ) → CanInsert sites o n → IsPlaceIn sites o n (key_of (site_at sites n) o.level) level place
+    → at_of o.words place ≡ body_word x → level ≤ 21 → key ≡ key_of (site_at sites n) level → ArePair sites x n key level
+body_case sites o n place level key x h there body shallow is_key =
+    let f = body_in sites o n place level x h there body in
+    let l : f.1.0 ≡ level = same_level (site_at sites x) (site_at sites n) f.1.0 level (sym f.1.2) in
+    let x_in : x < length sites = h.canonical.bodies_in x f.0 in
+    let differ : x ≢ n = λ e. h.fresh (subst (λ (y : ℕ). HasBody o.words y) e f.0) in
+    let together : key_of (site_at sites x) level ≡ key_of (site_at sites n) level = sym (f.1.2 ∙ ap (key_of (site_at sites x)) l) in
     record {
-      named = named;
-      meets = m;
-      differ = λ e. fresh (subst (λ (y : ℕ). HasBody o.words y) e had);
-      small = omega (arith, m.x_in, h.rule.few);
+      shallow = omega (arith, level_shallow sites x n level h.rule x_in h.n_in differ shallow together);
+      x_in = x_in;
+      n_in = h.n_in;
+      differ = differ;
+      x_under = is_key ∙ sym together;
+      n_under = is_key;
     }
 
 -- and the cells that part the two take its place
-pub parted_case : (sites : List Site) (before o : Stored) (next : List ℕ) (n place level word to v : ℕ) → CanInsert sites before o n → Found sites o n place level word → word ≢ 0
-    → length next ≡ length o.words → ((i : ℕ) → i < 3 + 10 * o.used → at_of next i ≡ at_of o.words i) → IsBlankFrom next to → AreUnlocked next → o.used < to → to ≤ o.used + 21 → to ≤ o.held
-    → StandsFor (site_at sites) (at_of next) (cell_word o.used) (key_of (site_at sites n) level) (IsTaken o.used to) (IsOneOf (word / 2) n) → v ≡ cell_word o.used
-    → IsDone sites n before (with_words o (slice_set next place v) to)
-parted_case sites before o next n place level word to v h f some len kept blank unlocked more few fits sub is =
-    subst (λ (y : Stored). IsDone sites n y (with_words o (slice_set next place v) to)) h.value
-    (done_body sites o next (word / 2) n place level to v h.stored (canonical_now sites before o n h) h.n_in h.rule.few (there_now sites before o n place level word h f) f.inside
-    (body_case sites before o n place level word h f some).named len kept blank unlocked more few fits sub is)
+pub parted_case : (sites : List Site) (o : Stored) (next : List ℕ) (n place level x to v : ℕ) → CanInsert sites o n → IsPlaceIn sites o n (key_of (site_at sites n) o.level) level place
+    → place < length o.words → at_of o.words place ≡ body_word x
+    → length next ≡ 3 + 10 * to → ((i : ℕ) → i < 3 + 10 * o.used → at_of next i ≡ at_of o.words i) → AreUnlocked next to → o.used < to → to ≤ o.used + 21 → to ≤ o.held
+    → StandsFor (site_at sites) (at_of next) (cell_word o.used) (key_of (site_at sites n) level) (IsTaken o.used to) (IsOneOf x n) → v ≡ cell_word o.used
+    → IsDone sites n o (with_words o (slice_set next place v) to)
+parted_case sites o next n place level x to v h there inside body len kept unlocked more few fits sub is =
+    done_body sites o next x n place level to v h.stored h.canonical h.n_in h.rule.few (there_now sites o n place level h there) inside body len kept unlocked more few fits sub is
 
 -- a canonical octree of the whole cube has the canonical tree of any list of its bodies
 pub tree_is : (sites : List Site) (o : Stored) → IsStored o → IsCanonical sites o → o.base ≡ 1

@@ -2,7 +2,8 @@
 use Rattle.std.proofs.Common.{inl, inr, ℕ, ◌+◌, ◌*◌, ◌^◌, ◌<◌, ◌≤◌, ◌≡◌, sym, ◌∙◌, ap, subst, arith, List, length, replicate, slice_index_or}
 use Rattle.std.proofs.lemmas.Bool.{cases_lt}
 use Rattle.std.proofs.lemmas.List.{get_or-replicate, get_or_past, length-replicate, get_or_read}
-use Rattle.octree.specs.Stored.{IsStored, Stored, lock_place}
+use Rattle.octree.specs.Stored.{IsStored, Stored}
+use Rattle.tree_rule.specs.Words.{lock_place}
 use Rattle.tree_rule.proofs.Canonical.{ACell, NoBody, OneBody, word_is}
 use Rattle.tree_rule.proofs.Sound.{forget}
 use Rattle.tree_rule.specs.Sound.{IsReachedAs, IsSound}
@@ -48,19 +49,18 @@ sound_blank at top base e =
       two_bodies = λ key c r. absurd (omega (arith, none key (cell_word c) r));
     }
 
--- words of zeros are an empty octree
-pub empty_stored : (words : List ℕ) (cells : ℕ) → cells ≤ 1376256 → words ≡ replicate (3 + 10 * cells) 0 → IsStored (record { words = words; base = 1; level = 0; used = 0; held = cells })
+-- three words of 0 are an empty octree
+pub empty_stored : (words : List ℕ) (cells : ℕ) → cells ≤ 1376256 → words ≡ replicate 3 0 → IsStored (record { words = words; base = 1; level = 0; used = 0; held = cells })
 empty_stored words cells h e =
-    let blank : (i : ℕ) → at_of words i ≡ 0 = λ i. ap (λ y. at_of y i) e ∙ at_blank (3 + 10 * cells) i in
+    let blank : (i : ℕ) → at_of words i ≡ 0 = λ i. ap (λ y. at_of y i) e ∙ at_blank 3 i in
     record {
       few = h;
-      long = ap length e ∙ length-replicate {A = ℕ} (3 + 10 * cells) 0;
+      long = ap length e ∙ length-replicate {A = ℕ} 3 0;
       used_held = omega arith;
       shallow = omega arith;
       base_low = omega arith;
       base_high = omega arith;
-      blank = λ i l. blank i;
-      unlocked = record { second = blank 1; third = blank 2; locks = λ c. blank (lock_place c) };
+      unlocked = record { second = blank 1; third = blank 2; locks = λ c l. blank (lock_place c) };
       sound = sound_blank (at_of words) (at_of words 0) 1 (blank 0);
       cells_used = λ c p. absurd (omega (arith, reached_blank (at_of words) (at_of words 0) (cell_word c) (blank 0) p));
       bodies_small = λ n p. absurd (omega (arith, reached_blank (at_of words) (at_of words 0) (body_word n) (blank 0) p));

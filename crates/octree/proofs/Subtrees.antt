@@ -1,13 +1,12 @@
 -- What is known of a word that is read on the way down from the root of an octree.
-use Rattle.std.proofs.Common.{ℕ, zero, suc, ◌+◌, ◌-◌, ◌*◌, ◌/◌, ◌^◌, ◌<◌, ◌≤◌, ◌≡◌, ◌⊎◌, List, [], ◌∷◌, refl, sym, ◌∙◌, ap, subst, arith, inl, inr, add-one}
+use Rattle.std.proofs.Common.{ℕ, zero, suc, ◌+◌, ◌-◌, ◌*◌, ◌/◌, ◌^◌, ◌<◌, ◌≤◌, ◌≡◌, ◌⊎◌, ◌↔◌, List, [], ◌∷◌, refl, sym, ◌∙◌, ap, subst, arith, inl, inr, add-one}
 use Rattle.std.proofs.Math.Nat.{pow-suc}
 use Rattle.std.proofs.lemmas.Bool.{cases_lt}
 use Rattle.octant_code.proofs.Keys.{pow8-mono}
-use Rattle.bh_model.proofs.Folds.{height_falls}
+use Rattle.bh_model.proofs.Folds.{height-body, height-empty, height_falls, height_within}
 use Rattle.bh_model.proofs.Lists.{in_joined, joined_in}
 use Rattle.bh_model.proofs.Trees.{cell_of-same, order-body, order-cell, order-empty}
 use Rattle.bh_model.specs.Bodies.{IsIn}
-use Rattle.octree.proofs.Texts.{tree-zero}
 use Rattle.bh_model.specs.Trees.{Tree, cell_of, height, order}
 use Rattle.tree_rule.proofs.Canonical.{ACell, NoBody, OneBody, WordIs, tree-body, tree-cell, tree-empty, word_is}
 use Rattle.tree_rule.proofs.Count.{Deeper, IsKeyBelow, Same, child_in_child, comparable}
@@ -17,82 +16,105 @@ use Rattle.tree_rule.specs.Words.{Below, HasBody, HasCell, Here, IsReached, at_o
 use Rattle.octree.specs.Stored.{Stored, IsStored, root_word, tree_of}
 use Rattle.octree.specs.Spot.{IsCellUnder, IsSpot, IsUnderChild, Spot, cell_at, child_under, tree_of_word, tree_under}
 use Rattle.octree.specs.Subtree.{HasParts, IsBodyAt, IsCellAt, IsChildOf, IsNothingAt}
-use Rattle.octree.proofs.Reading.{base_positive, level_left, tree_stays}
 use Rattle.octree.proofs.ReadWords.{word_small}
 
--- a tree that is read from a level on is not high
-height_left : (o : Stored) (below key w : ℕ) → IsStored o → WordIs w → IsReachedAs (at_of o.words) (root_word o) o.base key w → below ≤ 22 → 8 ^ (22 - below) ≤ key
-    → height (tree_from (at_of o.words) below w) < below
-unfolding height
-height_left o zero key w stored is read s low = absurd (omega (arith, level_left o zero key w stored read s low))
-height_left o (suc below) key w stored (NoBody e) read s low = rw (e, tree-empty (at_of o.words) below) (omega arith)
-height_left o (suc below) key w stored (OneBody n e) read s low = rw (e, tree-body (at_of o.words) below n) (omega arith)
-height_left o (suc below) key w stored (ACell c e) read s low =
-    let at : ℕ → ℕ = at_of o.words in
-    let level : 22 - below ≡ suc (22 - suc below) = omega arith in
-    let read' : IsReachedAs at (root_word o) o.base key (cell_word c) = subst (λ (y : ℕ). IsReachedAs at (root_word o) o.base key y) e read in
-    let kid : (k : ℕ) → k < 8 → height (tree_from at below (at (child_place c k))) < below =
-    λ k small. height_left o below (8 * key + k) (at (child_place c k)) stored (word_is (at (child_place c k))) (BelowAs c k key (8 * key + k) (at (child_place c k)) read' small refl refl) (omega arith)
-    (omega (arith, low, ap (λ l. 8 ^ l) level, pow-suc 8 (22 - suc below))) in
-    rw (e, tree-cell at below c)
-    (omega (arith, kid 0 (omega arith), kid 1 (omega arith), kid 2 (omega arith), kid 3 (omega arith), kid 4 (omega arith), kid 5 (omega arith), kid 6 (omega arith), kid 7 (omega arith)))
-
 -- a spot by its parts
-abbrev pub inside_spot : Stored → ℕ → Spot
-inside_spot o word = record { octree = o; word = word }
+abbrev pub spot_at : Stored → ℕ → Spot
+spot_at o word = record { octree = o; word = word }
 
 -- the root is a spot
-pub root_spot : (o : Stored) → IsStored o → IsSpot (inside_spot o (root_word o))
+pub root_spot : (o : Stored) → IsStored o → IsSpot (spot_at o (root_word o))
 root_spot o stored = record { stored = stored; key = o.base; level = o.level; read = HereAs o.base (root_word o) refl refl; shallow = stored.shallow; low = stored.base_low }
 
--- the word of a spot fits
+-- the word of a spot is read
+spot_read : (s : Spot) (r : IsSpot s) → IsReached (at_of s.octree.words) (root_word s.octree) s.word
+spot_read s r = forget (at_of s.octree.words) (root_word s.octree) s.octree.base r.key s.word r.read
+
+-- and it fits
 pub spot_small : (s : Spot) → IsSpot s → s.word < 2 ^ 33
-spot_small s r = word_small s.octree s.word r.stored (forget (at_of s.octree.words) (root_word s.octree) s.octree.base r.key s.word r.read)
+spot_small s r = word_small s.octree s.word r.stored (spot_read s r)
 
--- the spot of a cell, by the cell's number
-abbrev pub cell_spot : Stored → ℕ → Spot
-cell_spot o c = record { octree = o; word = cell_word c }
+-- its key is not 0
+spot_positive : (s : Spot) (r : IsSpot s) → 1 ≤ r.key
+spot_positive s r = omega (arith, r.low, pow8-mono 0 r.level (omega arith))
 
-module _ (o : Stored) (c : ℕ) (r : IsSpot (cell_spot o c)) where
-  -- a cell is not of the last level
-  pub cell_low : r.level < 21
+-- ---- a word that names a cell
+
+module _ (o : Stored) (w c : ℕ) (e : w ≡ cell_word c) (r : IsSpot (spot_at o w)) where
+  -- the cell is read
+  cell_read : IsReachedAs (at_of o.words) (root_word o) o.base r.key (cell_word c)
+  cell_read = subst (λ (y : ℕ). IsReachedAs (at_of o.words) (root_word o) o.base r.key y) e r.read
+
+  -- it is not of the last level
+  cell_low : r.level < 21
   cell_low = elim (cases_lt r.level 21) [
     | inl low ↦ low
-    | inr deep ↦ absurd (omega (arith, r.stored.sound.shallow r.key c r.read, r.low, pow8-mono 21 r.level deep))
+    | inr deep ↦ absurd (omega (arith, r.stored.sound.shallow r.key c cell_read, r.low, pow8-mono 21 r.level deep))
   ]
 
   -- it can be reached
   pub cell_reached : HasCell o.words c
-  cell_reached = forget (at_of o.words) (root_word o) o.base r.key (cell_word c) r.read
+  cell_reached = forget (at_of o.words) (root_word o) o.base r.key (cell_word c) cell_read
 
-  -- it has its words in the list
-  pub cell_fits : c < o.held
-  cell_fits = omega (arith, r.stored.cells_used c cell_reached, r.stored.used_held)
-
-  -- its key has room for one digit more
-  pub cell_key : r.key < 2 ^ 61
-  cell_key = r.stored.sound.shallow r.key c r.read
+  -- its words are in the list
+  pub cell_fits : c < o.used
+  cell_fits = r.stored.cells_used c cell_reached
 
   -- a child of it is a spot
-  pub child_spot : (k : ℕ) → k < 8 → IsSpot (inside_spot o (at_of o.words (child_place c k)))
+  pub child_spot : (k : ℕ) → k < 8 → IsSpot (spot_at o (at_of o.words (child_place c k)))
   child_spot k small = record {
     stored = r.stored;
     key = 8 * r.key + k;
     level = r.level + 1;
-    read = BelowAs c k r.key (8 * r.key + k) (at_of o.words (child_place c k)) r.read small refl refl;
+    read = BelowAs c k r.key (8 * r.key + k) (at_of o.words (child_place c k)) cell_read small refl refl;
     shallow = omega (arith, cell_low);
     low = omega (arith, r.low, pow-suc 8 r.level, ap (λ l. 8 ^ l) (add-one r.level));
   }
 
-  -- its tree is the cell of its children's trees
-  pub cell_tree : tree_of_word o (cell_word c) ≡ cell_of (λ k. tree_of_word o (at_of o.words (child_place c k)))
-  unfolding child_spot
-  cell_tree =
-      let at : ℕ → ℕ = at_of o.words in
-      let one : 1 ≤ r.key = omega (arith, r.low, pow8-mono 0 r.level (omega arith)) in
-      tree-cell at 21 c
-      ∙ cell_of-same (λ k. tree_from at 21 (at (child_place c k))) (λ k. tree_from at 22 (at (child_place c k)))
-      (λ k small. sym (tree_stays o 21 1 (8 * r.key + k) (at (child_place c k)) r.stored (word_is (at (child_place c k))) (child_spot k small).read (omega arith) (omega arith)))
+-- read deeper than there are levels left, a word has the same tree
+deep_enough : (o : Stored) (below w : ℕ) → WordIs w → (r : IsSpot (spot_at o w)) → 22 ≤ r.level + below → tree_from (at_of o.words) (suc below) w ≡ tree_from (at_of o.words) below w
+unfolding child_spot
+deep_enough o zero w is r deep = absurd (omega (arith, r.shallow))
+deep_enough o (suc below) w (NoBody e) r deep = rw e (tree-empty (at_of o.words) (suc below) ∙ sym (tree-empty (at_of o.words) below))
+deep_enough o (suc below) w (OneBody n e) r deep = rw e (tree-body (at_of o.words) (suc below) n ∙ sym (tree-body (at_of o.words) below n))
+deep_enough o (suc below) w (ACell c e) r deep =
+    let at : ℕ → ℕ = at_of o.words in
+    ap (tree_from at (suc (suc below))) e ∙ tree-cell at (suc below) c
+    ∙ cell_of-same (λ k. tree_from at (suc below) (at (child_place c k))) (λ k. tree_from at below (at (child_place c k)))
+    (λ k small. deep_enough o below (at (child_place c k)) (word_is (at (child_place c k))) (child_spot o w c e r k small) (omega arith))
+    ∙ sym (ap (tree_from at (suc below)) e ∙ tree-cell at below c)
+
+-- the tree of a cell is the cell of its children's trees
+pub cell_tree : (o : Stored) (w c : ℕ) (e : w ≡ cell_word c) → IsSpot (spot_at o w) → tree_of_word o w ≡ cell_of (λ k. tree_of_word o (at_of o.words (child_place c k)))
+unfolding child_spot
+cell_tree o w c e r =
+    let at : ℕ → ℕ = at_of o.words in
+    ap (tree_from at 22) e ∙ tree-cell at 21 c
+    ∙ cell_of-same (λ k. tree_from at 21 (at (child_place c k))) (λ k. tree_from at 22 (at (child_place c k)))
+    (λ k small. sym (deep_enough o 21 (at (child_place c k)) (word_is (at (child_place c k))) (child_spot o w c e r k small) (omega arith)))
+
+-- a tree has no more cells one inside the other than there are levels left
+height_left : (o : Stored) (left w : ℕ) → WordIs w → (r : IsSpot (spot_at o w)) → r.level + left ≡ 21 → height (tree_of_word o w) ≤ left
+unfolding child_spot
+height_left o left w (NoBody e) r all = omega (arith, ap height (ap (tree_of_word o) e ∙ tree-empty (at_of o.words) 21), height-empty)
+height_left o left w (OneBody n e) r all = omega (arith, ap height (ap (tree_of_word o) e ∙ tree-body (at_of o.words) 21 n), height-body n)
+height_left o zero w (ACell c e) r all = absurd (omega (arith, cell_low o w c e r))
+height_left o (suc left) w (ACell c e) r all =
+    let child : ℕ → ℕ = λ k. at_of o.words (child_place c k) in
+    let kids = height_within (λ k. tree_of_word o (child k)) (suc left)
+    (λ k small. let kid : height (tree_of_word o (child k)) ≤ left = height_left o left (child k) (word_is (child k)) (child_spot o w c e r k small) (omega arith) in omega (arith, kid)) in
+    omega (arith, ap height (cell_tree o w c e r), kids)
+
+-- What holds of the words that name no cell, and of a cell's word where it holds of its children's, holds of each word that is read.
+each_spot : (o : Stored) (P : ℕ → Type 0) → ((w : ℕ) → w ≡ 0 → P w) → ((w n : ℕ) → w ≡ body_word n → P w)
+    → ((w c : ℕ) → w ≡ cell_word c → IsSpot (spot_at o w) → ((k : ℕ) → k < 8 → P (at_of o.words (child_place c k))) → P w)
+    → (left w : ℕ) → WordIs w → (r : IsSpot (spot_at o w)) → r.level + left ≡ 21 → P w
+unfolding child_spot
+each_spot o P none one cell left w (NoBody e) r all = none w e
+each_spot o P none one cell left w (OneBody n e) r all = one w n e
+each_spot o P none one cell zero w (ACell c e) r all = absurd (omega (arith, cell_low o w c e r))
+each_spot o P none one cell (suc left) w (ACell c e) r all =
+    cell w c e r (λ k small. each_spot o P none one cell left (at_of o.words (child_place c k)) (word_is (at_of o.words (child_place c k))) (child_spot o w c e r k small) (omega arith))
 
 -- ---- the cells below a word
 
@@ -109,15 +131,15 @@ key_in at top base upper w _ r (Below c k v s l e) =
     record { key = 8 * f.key + k; read = BelowAs c k f.key (8 * f.key + k) v f.read l refl e; inside = Deeper f.key k (8 * f.key + k) f.inside l refl }
 
 -- a cell that is read below two children of a cell is read below one child
-one_child : (o : Stored) (c i j d : ℕ) → IsStored o → IsSpot (cell_spot o c) → i < 8 → j < 8
+one_child : (o : Stored) (w c i j d : ℕ) → w ≡ cell_word c → IsSpot (spot_at o w) → i < 8 → j < 8
     → IsReached (at_of o.words) (at_of o.words (child_place c i)) (cell_word d) → IsReached (at_of o.words) (at_of o.words (child_place c j)) (cell_word d) → i ≡ j
-one_child o c i j d stored r p q x y =
+one_child o w c i j d e r p q x y =
     let at : ℕ → ℕ = at_of o.words in
     let key : ℕ = r.key in
-    let one : 1 ≤ key = omega (arith, r.low, pow8-mono 0 r.level (omega arith)) in
-    let f = key_in at (root_word o) o.base (8 * key + i) (at (child_place c i)) (cell_word d) (BelowAs c i key (8 * key + i) (at (child_place c i)) r.read p refl refl) x in
-    let g = key_in at (root_word o) o.base (8 * key + j) (at (child_place c j)) (cell_word d) (BelowAs c j key (8 * key + j) (at (child_place c j)) r.read q refl refl) y in
-    let same : g.key ≡ f.key = sym (stored.sound.keys_follow g.key d g.read) ∙ stored.sound.keys_follow f.key d f.read in
+    let one : 1 ≤ key = spot_positive (spot_at o w) r in
+    let f = key_in at (root_word o) o.base (8 * key + i) (at (child_place c i)) (cell_word d) (BelowAs c i key (8 * key + i) (at (child_place c i)) (cell_read o w c e r) p refl refl) x in
+    let g = key_in at (root_word o) o.base (8 * key + j) (at (child_place c j)) (cell_word d) (BelowAs c j key (8 * key + j) (at (child_place c j)) (cell_read o w c e r) q refl refl) y in
+    let same : g.key ≡ f.key = sym (r.stored.sound.keys_follow g.key d g.read) ∙ r.stored.sound.keys_follow f.key d f.read in
     elim (comparable (8 * key + i) (8 * key + j) f.key f.inside (subst (λ (z : ℕ). IsKeyBelow (8 * key + j) z) same g.inside)) [
       | inl z ↦ child_in_child key i j one p q z
       | inr z ↦ sym (child_in_child key j i one q p z)
@@ -150,71 +172,65 @@ below_cell at c k _ l (Below d j v s m e) = Below d j v (below_cell at c k (cell
 
 -- ---- the bodies below a word
 
--- what is read below a word that is read is read
-all_read : (at : ℕ → ℕ) (top w v : ℕ) → IsReached at top w → IsReached at w v → IsReached at top v
-all_read at top w _ r (Here v e) = subst (λ (y : ℕ). IsReached at top y) (sym e) r
-all_read at top w _ r (Below c k v s l e) = Below c k v (all_read at top w (cell_word c) r s) l e
-
--- a body in the order of a word's tree is read
-order_read : (at : ℕ → ℕ) (top below w n : ℕ) → IsReached at top w → WordIs w → IsIn (order (tree_from at below w)) n → IsReached at top (body_word n)
-order_read at top zero w n r is i = absurd (subst (λ (y : List ℕ). IsIn y n) (ap order (tree-zero at w) ∙ order-empty) i)
-order_read at top (suc below) w n r (NoBody e) i =
-    absurd (subst (λ (y : List ℕ). IsIn y n) (ap (λ y. order (tree_from at (suc below) y)) e ∙ ap order (tree-empty at below) ∙ order-empty) i)
-order_read at top (suc below) w n r (OneBody m e) i =
-    let j : IsIn (m ∷ []) n = subst (λ (y : List ℕ). IsIn y n) (ap (λ y. order (tree_from at (suc below) y)) e ∙ ap order (tree-body at below m) ∙ order-body m) i in
-    elim j [ inl s ↦ subst (λ (y : ℕ). IsReached at top y) (e ∙ ap body_word (sym s)) r | inr f ↦ absurd f ]
-order_read at top (suc below) w n r (ACell c e) i =
-    let child : ℕ → Tree = λ k. tree_from at below (at (child_place c k)) in
-    let p = in_joined (λ k. order (child k)) 8 n
-    (subst (λ (y : List ℕ). IsIn y n) (ap (λ y. order (tree_from at (suc below) y)) e ∙ ap order (tree-cell at below c) ∙ order-cell child) i) in
-    order_read at top below (at (child_place c p.part)) n (Below c p.part (at (child_place c p.part)) (subst (λ (y : ℕ). IsReached at top y) e r) p.small refl)
-    (word_is (at (child_place c p.part))) p.inside
-
--- no cell is read below a word that names none, and so no other body below a body
+-- nothing else is read below a word that names no cell
 word_under : (at : ℕ → ℕ) (w v : ℕ) → ((c : ℕ) → w ≡ cell_word c → ⊥) → IsReached at w v → v ≡ w
 word_under at w _ off (Here v e) = e
 word_under at w _ off (Below c k v s l e) = absurd (none_under at w (cell_word c) c off s refl)
 
--- a body that is read below a word stands in the order of its tree
-read_order : (o : Stored) (below key w n : ℕ) → IsStored o → WordIs w → IsReachedAs (at_of o.words) (root_word o) o.base key w → below ≤ 22 → 8 ^ (22 - below) ≤ key
-    → IsReached (at_of o.words) w (body_word n) → IsIn (order (tree_from (at_of o.words) below w)) n
-read_order o zero key w n stored is read s low r = absurd (omega (arith, level_left o zero key w stored read s low))
-read_order o (suc below) key w n stored (NoBody e) read s low r = absurd (omega (arith, word_under (at_of o.words) w (body_word n) (λ c f. omega arith) r))
-read_order o (suc below) key w n stored (OneBody m e) read s low r =
-    let same : n ≡ m = omega (arith, word_under (at_of o.words) w (body_word n) (λ c f. omega arith) r) in
-    subst (λ (y : List ℕ). IsIn y n) (sym (ap (λ y. order (tree_from (at_of o.words) (suc below) y)) e ∙ ap order (tree-body (at_of o.words) below m) ∙ order-body m)) (inl same)
-read_order o (suc below) key w n stored (ACell c e) read s low r =
+-- the bodies of the tree are those that are read below the word
+abbrev HasItsBodies : Stored → ℕ → Type 0
+HasItsBodies o w = (n : ℕ) → IsIn (order (tree_of_word o w)) n ↔ IsReached (at_of o.words) w (body_word n)
+
+none_has : (o : Stored) (w : ℕ) → w ≡ 0 → HasItsBodies o w
+none_has o w e n = (
+  (λ i. absurd (subst (λ (y : List ℕ). IsIn y n) (ap order (ap (tree_of_word o) e ∙ tree-empty (at_of o.words) 21) ∙ order-empty) i)),
+  (λ r. absurd (omega (arith, word_under (at_of o.words) w (body_word n) (λ c f. omega arith) r))),
+)
+
+one_has : (o : Stored) (w m : ℕ) → w ≡ body_word m → HasItsBodies o w
+one_has o w m e n =
+    let order_is : order (tree_of_word o w) ≡ m ∷ [] = ap order (ap (tree_of_word o) e ∙ tree-body (at_of o.words) 21 m) ∙ order-body m in (
+      (λ i. elim (subst (λ (y : List ℕ). IsIn y n) order_is i) [ inl f ↦ Here (body_word n) (ap body_word f ∙ sym e) | inr f ↦ absurd f ]),
+      (λ r.
+          let same : n ≡ m = omega (arith, word_under (at_of o.words) w (body_word n) (λ c f. omega arith) r) in
+          subst (λ (y : List ℕ). IsIn y n) (sym order_is) (inl same)),
+    )
+
+cell_has : (o : Stored) (w c : ℕ) → w ≡ cell_word c → IsSpot (spot_at o w) → ((k : ℕ) → k < 8 → HasItsBodies o (at_of o.words (child_place c k))) → HasItsBodies o w
+cell_has o w c e r each n =
     let at : ℕ → ℕ = at_of o.words in
-    let level : 22 - below ≡ suc (22 - suc below) = omega arith in
-    let read' : IsReachedAs at (root_word o) o.base key (cell_word c) = subst (λ (y : ℕ). IsReachedAs at (root_word o) o.base key y) e read in
-    let child : ℕ → Tree = λ k. tree_from at below (at (child_place c k)) in
-    elim (under_word at c (body_word n) (subst (λ (y : ℕ). IsReached at y (body_word n)) e r)) [
-      | inl f ↦ absurd (omega arith)
-      | inr f ↦
-          let k : ℕ = f.octant in
-          let inside = read_order o below (8 * key + k) (at (child_place c k)) n stored (word_is (at (child_place c k))) (BelowAs c k key (8 * key + k) (at (child_place c k)) read' f.small refl refl) (omega arith)
-          (omega (arith, low, ap (λ l. 8 ^ l) level, pow-suc 8 (22 - suc below))) f.read in
-          subst (λ (y : List ℕ). IsIn y n) (sym (ap (λ y. order (tree_from at (suc below) y)) e ∙ ap order (tree-cell at below c) ∙ order-cell child)) (joined_in (λ j. order (child j)) 8 k n f.small inside)
-    ]
+    let orders : ℕ → List ℕ = λ k. order (tree_of_word o (at (child_place c k))) in
+    let order_is = ap order (cell_tree o w c e r) ∙ order-cell (λ k. tree_of_word o (at (child_place c k))) in (
+      (λ i.
+          let p = in_joined orders 8 n (subst (λ (y : List ℕ). IsIn y n) order_is i) in
+          subst (λ (y : ℕ). IsReached at y (body_word n)) (sym e) (below_cell at c p.part (body_word n) p.small ((each p.part p.small n).0 p.inside))),
+      (λ h. elim (under_word at c (body_word n) (subst (λ (y : ℕ). IsReached at y (body_word n)) e h)) [
+        | inl f ↦ absurd (omega arith)
+        | inr f ↦ subst (λ (y : List ℕ). IsIn y n) (sym order_is) (joined_in orders 8 f.octant n f.small ((each f.octant f.small n).1 f.read))
+      ]),
+    )
 
--- the tree of a spot's word has the bodies that are read below it
-spot_order : (s : Spot) (n : ℕ) → IsSpot s → IsReached (at_of s.octree.words) s.word (body_word n) → IsIn (order (tree_under s)) n
-unfolding tree_under
-spot_order s n r h =
-    let o : Stored = s.octree in
-    let below : ℕ = 22 - r.level in
-    let back : 22 - below ≡ r.level = omega (arith, r.shallow) in
-    let low : 8 ^ (22 - below) ≤ r.key = omega (arith, r.low, ap (λ l. 8 ^ l) back) in
-    let all : below + r.level ≡ 22 = omega (arith, r.shallow) in
-    let same : tree_from (at_of o.words) below s.word ≡ tree_from (at_of o.words) 22 s.word =
-    sym (tree_stays o below r.level r.key s.word r.stored (word_is s.word) r.read (omega arith) low) ∙ ap (λ b. tree_from (at_of o.words) b s.word) all in
-    subst (λ (t : Tree). IsIn (order t) n) same (read_order o below r.key s.word n r.stored (word_is s.word) r.read (omega arith) low h)
+-- a body in the order of a word's tree is read below the word, and no other is
+bodies_of_spot : (o : Stored) (w : ℕ) → IsSpot (spot_at o w) → HasItsBodies o w
+bodies_of_spot o w r =
+    let all : r.level + (21 - r.level) ≡ 21 = omega (arith, r.shallow) in
+    each_spot o (HasItsBodies o) (none_has o) (one_has o) (cell_has o) (21 - r.level) w (word_is w) r all
 
--- and no others
+-- the bodies of the octree's tree are those that can be reached
+pub bodies_of_tree : (o : Stored) → IsStored o → (n : ℕ) → IsIn (order (tree_of o)) n ↔ HasBody o.words n
+bodies_of_tree o stored = bodies_of_spot o (root_word o) (root_spot o stored)
+
+-- the bodies of a spot's tree are the octree's
 pub spot_bodies : (s : Spot) → IsSpot s → (n : ℕ) → IsIn (order (tree_under s)) n → HasBody s.octree.words n
 unfolding tree_under
 spot_bodies s r n i =
-    order_read (at_of s.octree.words) (root_word s.octree) 22 s.word n (forget (at_of s.octree.words) (root_word s.octree) s.octree.base r.key s.word r.read) (word_is s.word) i
+    all_read (at_of s.octree.words) (root_word s.octree) s.word (body_word n) (spot_read s r) ((bodies_of_spot s.octree s.word r n).0 i)
+  where
+    all_read : (at : ℕ → ℕ) (top w v : ℕ) → IsReached at top w → IsReached at w v → IsReached at top v
+    all_read at top w _ u (Here v e) = subst (λ (y : ℕ). IsReached at top y) (sym e) u
+    all_read at top w _ u (Below c k v t l e) = Below c k v (all_read at top w (cell_word c) u t) l e
+
+-- ---- what stands at the top
 
 -- an empty spot
 pub top_none : (s : Spot) → s.word ≡ 0 → IsNothingAt s
@@ -228,8 +244,7 @@ top_none s e = record {
 pub top_body : (s : Spot) (n : ℕ) → IsSpot s → s.word ≡ body_word n → IsBodyAt s n
 unfolding tree_under IsCellUnder
 top_body s n r e =
-    let reached : HasBody s.octree.words n = forget (at_of s.octree.words) (root_word s.octree) s.octree.base r.key (body_word n)
-    (subst (λ (w : ℕ). IsReachedAs (at_of s.octree.words) (root_word s.octree) s.octree.base r.key w) e r.read) in
+    let reached : HasBody s.octree.words n = subst (λ (w : ℕ). IsReached (at_of s.octree.words) (root_word s.octree) w) e (spot_read s r) in
     record {
       tree = ap (tree_of_word s.octree) e ∙ tree-body (at_of s.octree.words) 21 n;
       bare = λ d h. none_under (at_of s.octree.words) s.word (cell_word d) d (λ c f. omega arith) h refl;
@@ -238,44 +253,47 @@ top_body s n r e =
     }
 
 -- the cells below a cell
-cell_parts : (o : Stored) (c : ℕ) → IsSpot (cell_spot o c) → HasParts (cell_spot o c) (cell_spot o c)
+cell_parts : (s : Spot) (c : ℕ) → IsSpot s → s.word ≡ cell_word c → HasParts s s
 unfolding cell_at IsCellUnder IsUnderChild
-cell_parts o c r =
-    let at : ℕ → ℕ = at_of o.words in
-    let number : cell_word c / 2 - 1 ≡ c = omega arith in
-    let child : (k d : ℕ) → IsReached at (at (child_place (cell_word c / 2 - 1) k)) (cell_word d) → IsReached at (at (child_place c k)) (cell_word d) =
+cell_parts s c r e =
+    let at : ℕ → ℕ = at_of s.octree.words in
+    let number : s.word / 2 - 1 ≡ c = omega arith in
+    let child : (k d : ℕ) → IsReached at (at (child_place (s.word / 2 - 1) k)) (cell_word d) → IsReached at (at (child_place c k)) (cell_word d) =
     λ k d h. subst (λ (x : ℕ). IsReached at (at (child_place x k)) (cell_word d)) number h in
     record {
-      itself = Here (cell_word (cell_word c / 2 - 1)) (ap cell_word number);
-      below = λ k d l h. below_cell at c k (cell_word d) l (child k d h);
-      nothing_else = λ d h. elim (under_word at c (cell_word d) h) [
-        | inl e ↦ inl (omega (arith, e))
+      itself = Here (cell_word (s.word / 2 - 1)) (ap cell_word number ∙ sym e);
+      below = λ k d l h. subst (λ (w : ℕ). IsReached at w (cell_word d)) (sym e) (below_cell at c k (cell_word d) l (child k d h));
+      nothing_else = λ d h. elim (under_word at c (cell_word d) (subst (λ (w : ℕ). IsReached at w (cell_word d)) e h)) [
+        | inl f ↦ inl (omega (arith, f))
         | inr f ↦ inr (record { octant = f.octant; small = f.small; under = subst (λ (x : ℕ). IsReached at (at (child_place x f.octant)) (cell_word d)) (sym number) f.read })
       ];
-      apart = λ i j d p q x y. one_child o c i j d r.stored r p q (child i d x) (child j d y);
+      apart = λ i j d p q x y. one_child s.octree s.word c i j d e r p q (child i d x) (child j d y);
     }
 
 -- the spot of a cell
-pub top_cell : (s : Spot) (c : ℕ) → IsSpot s → s.word ≡ cell_word c → IsCellAt s (cell_spot s.octree c)
+cell_at_itself : (s : Spot) (c : ℕ) → IsSpot s → s.word ≡ cell_word c → IsCellAt s s
 unfolding cell_at child_under tree_under
-top_cell s c r e =
-    let number : cell_word c / 2 - 1 ≡ c = omega arith in
+cell_at_itself s c r e =
+    let number : s.word / 2 - 1 ≡ c = omega arith in
     let o : Stored = s.octree in
-    let r' : IsSpot (cell_spot o c) = subst (λ (w : ℕ). IsSpot (record { octree = s.octree; word = w })) e r in
-    let two = r.stored.sound.two_bodies r.key c r'.read in
-    let same : cell_spot o c ≡ s = ap (λ (w : ℕ). record { octree = s.octree; word = w }) (sym e) in
+    let two = r.stored.sound.two_bodies r.key c (cell_read o s.word c e r) in
     record {
-      same = same;
-      tree = ap (tree_of_word o) e ∙ cell_tree o c r' ∙ ap (λ d. cell_of (λ k. tree_of_word o (at_of o.words (child_place d k)))) (sym number);
+      same = refl;
+      tree = cell_tree o s.word c e r ∙ ap (λ d. cell_of (λ k. tree_of_word o (at_of o.words (child_place d k)))) (sym number);
       kept = ap (tree_of_word o) e ∙ ap (λ d. tree_of_word o (cell_word d)) (sym number);
-      reached = subst (λ (d : ℕ). HasCell o.words d) (sym number) (cell_reached o c r');
-      some = record { body = two.one; inside = spot_order s two.one r (subst (λ (w : ℕ). IsReached (at_of o.words) w (body_word two.one)) (sym e) two.one_read) };
-      parts = subst (λ (x : Spot). HasParts x (cell_spot o c)) same (cell_parts o c r');
+      reached = subst (λ (d : ℕ). HasCell o.words d) (sym number) (cell_reached o s.word c e r);
+      some = record { body = two.one; inside = (bodies_of_spot o s.word r two.one).1 (subst (λ (w : ℕ). IsReached (at_of o.words) w (body_word two.one)) (sym e) two.one_read) };
+      parts = cell_parts s c r e;
     }
 
+-- and by the cell's number
+pub top_cell : (s : Spot) (c : ℕ) → IsSpot s → s.word ≡ cell_word c → IsCellAt s (spot_at s.octree (cell_word c))
+top_cell s c r e = subst (λ (w : ℕ). IsCellAt s (spot_at s.octree w)) e (cell_at_itself s c r e)
+
+-- ---- the cursor
+
 -- a child of a cell
-pub child_is_child : (o : Stored) (c k w : ℕ) → w ≡ at_of o.words (child_place c k)
-    → IsChildOf (cell_spot o c) k (inside_spot o w)
+pub child_is_child : (o : Stored) (c k w : ℕ) → w ≡ at_of o.words (child_place c k) → IsChildOf (spot_at o (cell_word c)) k (spot_at o w)
 unfolding child_under tree_under IsCellUnder IsUnderChild
 child_is_child o c k w e =
     let number : cell_word c / 2 - 1 ≡ c = omega arith in
@@ -286,27 +304,33 @@ child_is_child o c k w e =
       cells = λ d. (λ h. subst (λ (x : ℕ). IsReached (at_of o.words) x (cell_word d)) word h, λ h. subst (λ (x : ℕ). IsReached (at_of o.words) x (cell_word d)) (sym word) h);
     }
 
--- the tree of a spot is not high
-pub spot_height : (o : Stored) (w : ℕ) → IsStored o → w ≡ root_word o → height (tree_under (inside_spot o w)) ≤ 21
-unfolding tree_under
-spot_height o w stored e =
-    let low : height (tree_from (at_of o.words) 22 w) < 22 = height_left o 22 o.base w stored (word_is w) (HereAs o.base w refl e) (omega arith) (omega (arith, base_positive o stored)) in
-    omega (arith, low)
-
 -- the number of a cell
-pub spot_number : (o : Stored) (c : ℕ) → c ≡ cell_at (cell_spot o c)
+pub spot_number : (o : Stored) (c : ℕ) → c ≡ cell_at (spot_at o (cell_word c))
 unfolding cell_at
 spot_number o c = let e : c ≡ cell_word c / 2 - 1 = omega arith in e
 
--- the tree of the root
-pub root_under : (o : Stored) (w : ℕ) → w ≡ root_word o → tree_under (inside_spot o w) ≡ tree_of o
-unfolding tree_under
-root_under o w e = ap (tree_of_word o) e
+-- what is known of the whole octree as a spot
+pub record IsWhole (o : Stored) (s : Spot) : Type 0 where
+  pub octree : s.octree ≡ o
+  pub tree : tree_under s ≡ tree_of o
+  pub height : height (tree_under s) ≤ 21
+  pub cells : (d : ℕ) → HasCell o.words d → IsCellUnder s d
+  pub bodies : (n : ℕ) → IsIn (order (tree_of o)) n ↔ HasBody o.words n
+  pub spot : IsSpot s
 
--- the cells of the root
-pub root_cells : (o : Stored) (w : ℕ) → w ≡ root_word o → (d : ℕ) → HasCell o.words d → IsCellUnder (inside_spot o w) d
-unfolding IsCellUnder
-root_cells o w e d h = subst (λ (x : ℕ). IsReached (at_of o.words) x (cell_word d)) (sym e) h
+pub whole_is : (o : Stored) (w : ℕ) → IsStored o → w ≡ root_word o → IsWhole o (spot_at o w)
+unfolding tree_under IsCellUnder root_spot
+whole_is o w stored e =
+    let all : o.level + (21 - o.level) ≡ 21 = omega (arith, stored.shallow) in
+    let low : height (tree_of o) ≤ 21 - o.level = height_left o (21 - o.level) (root_word o) (word_is (root_word o)) (root_spot o stored) all in
+    record {
+      octree = refl;
+      tree = ap (tree_of_word o) e;
+      height = omega (arith, low, ap height (ap (tree_of_word o) e));
+      cells = λ d h. subst (λ (x : ℕ). IsReached (at_of o.words) x (cell_word d)) (sym e) h;
+      bodies = bodies_of_tree o stored;
+      spot = subst (λ (y : ℕ). IsSpot (spot_at o y)) (sym e) (root_spot o stored);
+    }
 
 -- a child is of the same octree as the subtree whose cell it is a child of
 pub child_octree : (s cell child : Spot) (k : ℕ) → IsCellAt s cell → IsChildOf cell k child → child.octree ≡ s.octree

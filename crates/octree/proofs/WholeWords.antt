@@ -1,8 +1,16 @@
 -- The words of an octree of the whole cube, made a tree again.
-use Rattle.std.proofs.Common.{ℕ, ◌-◌, ◌/◌, ◌≡◌, inl, inr, sym, ◌∙◌, ap, arith, length}
+use Rattle.std.proofs.Common.{ℕ, ◌+◌, ◌-◌, ◌*◌, ◌/◌, ◌<◌, ◌≤◌, ◌≡◌, ◌⊎◌, inl, inr, sym, ◌∙◌, ap, subst, arith, List, ◌++◌, length, length-append, replicate, take, refl}
 use Rattle.std.proofs.lemmas.Bool.{cases_lt}
+use Rattle.std.proofs.lemmas.List.{get_or-replicate, get_or-append_right, get_or_append_left, length-replicate, length-take-le, take_all, take_at, get_or-take}
 use Rattle.octant_code.proofs.Keys.{pow8-mono}
-use Rattle.octree.specs.Stored.{IsStored, Stored, all_used, full_tree}
+use Rattle.octree.proofs.Locks.{unlocked_more}
+use Rattle.octree.proofs.Words.{at_longer, at_past}
+use Rattle.octree.specs.Stored.{AreOctreeWords, IsBlankFrom, IsStored, Stored, all_used, all_words, full_tree, spare_of, tree_with_used}
+use Rattle.tree_rule.specs.Locks.{AreUnlocked}
+use Rattle.tree_rule.proofs.Sound.{recall}
+use Rattle.tree_rule.specs.Words.{lock_place}
+use Rattle.tree_rule.specs.Sound.{IsSound}
+use Rattle.tree_rule.specs.Words.{Below, HasBody, HasCell, Here, IsReached, at_of, body_word, cell_word, child_place}
 
 -- the whole cube is of level 0
 whole_level : (o : Stored) → IsStored o → o.base ≡ 1 → o.level ≡ 0
@@ -11,10 +19,96 @@ whole_level o h one = elim (cases_lt o.level 1) [
   | inr l ↦ absurd (omega (arith, h.base_low, pow8-mono 1 o.level l))
 ]
 
--- the tree of its words is the octree, its spare cells counted as used
-pub full_again : (o : Stored) → IsStored o → o.base ≡ 1 → full_tree o.words ≡ all_used o
+-- with those of the spare cells there are as many words as for all that are held
+pub all_length : (o : Stored) → IsStored o → length (all_words o) ≡ 3 + 10 * o.held
+all_length o h = omega (arith, length-append o.words (replicate (10 * spare_of o) 0), length-replicate {A = ℕ} (10 * spare_of o) 0, h.long, h.used_held)
+
+-- and they say the same
+pub all_same : (o : Stored) → at_of (all_words o) ≡ at_of o.words
+all_same o =
+    let n : ℕ = 10 * spare_of o in
+    let len : length (all_words o) ≡ length o.words + n = length-append o.words (replicate n 0) ∙ ap (λ y. length o.words + y) (length-replicate {A = ℕ} n 0) in
+    at_longer o.words (all_words o) (omega (arith, len)) (λ i l. get_or_append_left o.words (replicate n 0) 0 i l)
+    (λ i l m. get_or-append_right o.words (replicate n 0) (length o.words) i 0 refl l ∙ get_or-replicate n (i - length o.words) 0 0 (omega (arith, len)))
+
+-- the words that are filled up to all that are held
+pub filled : (o : Stored) (words : List ℕ) (n m : ℕ) → IsStored o → n ≡ 3 + 10 * o.held → m ≡ length o.words → words ≡ take n o.words ++ replicate (n - m) 0 → words ≡ all_words o
+filled o words n m h is_n is_m e =
+    let left : n - m ≡ 10 * spare_of o = omega (arith, h.long, h.used_held) in
+    e ∙ ap (λ y. y ++ replicate (n - m) 0) (take_all n o.words (omega (arith, h.long, h.used_held))) ∙ ap (λ k. o.words ++ replicate k 0) left
+
+-- those of the spare cells are 0
+pub all_blank : (o : Stored) → IsStored o → IsBlankFrom (all_words o) o.used
+all_blank o h i l = ap (λ (at : ℕ → ℕ). at i) (all_same o) ∙ at_past o.words i (omega (arith, h.long))
+
+-- they are the words of an octree
+pub all_are : (o : Stored) → IsStored o → o.base ≡ 1 → AreOctreeWords (all_words o)
+all_are o h one =
+    let same : at_of o.words ≡ at_of (all_words o) = sym (all_same o) in
+    record {
+      cells = o.held;
+      few = h.few;
+      long = all_length o h;
+      unlocked = unlocked_more o.words (all_words o) o.used o.held h.unlocked h.long (all_same o);
+      sound = subst (λ (at : ℕ → ℕ). IsSound at (at 0) 1) same (subst (λ (base : ℕ). IsSound (at_of o.words) (at_of o.words 0) base) one h.sound);
+      cells_held = λ c r. omega (arith, h.cells_used c (subst (λ (at : ℕ → ℕ). IsReached at (at 0) (cell_word c)) (sym same) r), h.used_held);
+      bodies_small = λ n r. h.bodies_small n (subst (λ (at : ℕ → ℕ). IsReached at (at 0) (body_word n)) (sym same) r);
+    }
+
+-- the tree of these words is the octree, its spare cells counted as used
+pub full_again : (o : Stored) → IsStored o → o.base ≡ 1 → full_tree (all_words o) ≡ all_used o
 full_again o h one =
-    let cells : (length o.words - 3) / 10 ≡ o.held = omega (arith, h.long) in
-    ap (λ (n : ℕ). record { words = o.words; base = 1; level = 0; used = n; held = n }) cells
-    ∙ ap (λ (b : ℕ). record { words = o.words; base = b; level = 0; used = o.held; held = o.held }) (sym one)
-    ∙ ap (λ (l : ℕ). record { words = o.words; base = o.base; level = l; used = o.held; held = o.held }) (sym (whole_level o h one))
+    let cells : (length (all_words o) - 3) / 10 ≡ o.held = omega (arith, all_length o h) in
+    ap (λ (n : ℕ). record { words = all_words o; base = 1; level = 0; used = n; held = n }) cells
+    ∙ ap (λ (b : ℕ). record { words = all_words o; base = b; level = 0; used = o.held; held = o.held }) (sym one)
+    ∙ ap (λ (l : ℕ). record { words = all_words o; base = o.base; level = l; used = o.held; held = o.held }) (sym (whole_level o h one))
+
+-- and with the number of used cells it is the octree
+pub used_again : (o : Stored) → IsStored o → o.base ≡ 1 → tree_with_used (all_words o) o.used ≡ o
+used_again o h one =
+    let cells : (length (all_words o) - 3) / 10 ≡ o.held = omega (arith, all_length o h) in
+    ap (λ (words : List ℕ). record { words = words; base = 1; level = 0; used = o.used; held = (length (all_words o) - 3) / 10 }) (take_at o.words (replicate (10 * spare_of o) 0) (3 + 10 * o.used) h.long)
+    ∙ ap (λ (n : ℕ). record { words = o.words; base = 1; level = 0; used = o.used; held = n }) cells
+    ∙ ap (λ (b : ℕ). record { words = o.words; base = b; level = 0; used = o.used; held = o.held }) (sym one)
+    ∙ ap (λ (l : ℕ). record { words = o.words; base = o.base; level = l; used = o.used; held = o.held }) (sym (whole_level o h one))
+
+-- below cells that are not used nothing is read
+unused_bare : (words : List ℕ) (used c : ℕ) → IsBlankFrom words used → used ≤ c → (w : ℕ) → IsReached (at_of words) (cell_word c) w → (w ≡ cell_word c) ⊎ (w ≡ 0)
+unused_bare words used c blank past _ (Here w e) = inl e
+unused_bare words used c blank past _ (Below d k w r l e) = elim (unused_bare words used c blank past (cell_word d) r) [
+  | inl f ↦ inr (e ∙ blank (child_place d k) (omega arith))
+  | inr f ↦ absurd (omega arith)
+]
+
+-- so no such cell is reached
+cells_below : (words : List ℕ) (used : ℕ) → AreOctreeWords words → IsBlankFrom words used → (c : ℕ) → HasCell words c → c < used
+cells_below words used h blank c r = elim (cases_lt c used) [
+  | inl l ↦ l
+  | inr past ↦
+      let f = recall (at_of words) (at_of words 0) 1 (cell_word c) r in
+      let two = h.sound.two_bodies f.key c f.read in
+      absurd (elim (unused_bare words used c blank past (body_word two.one) two.one_read) [ inl e ↦ omega arith | inr e ↦ omega arith ])
+]
+
+-- the words of the used cells alone are an octree's
+pub used_stored : (words : List ℕ) (used : ℕ) → AreOctreeWords words → 3 + 10 * used ≤ length words → IsBlankFrom words used → IsStored (tree_with_used words used)
+used_stored words used h within blank =
+    let part : List ℕ = take (3 + 10 * used) words in
+    let len : length part ≡ 3 + 10 * used = length-take-le (3 + 10 * used) words within in
+    let same : at_of words ≡ at_of part = at_longer part words (omega arith) (λ i l. sym (get_or-take (3 + 10 * used) words i 0 (omega arith))) (λ i l m. blank i (omega arith)) in
+    record {
+      few = omega (arith, h.few, h.long);
+      long = len;
+      used_held = omega (arith, within, h.long);
+      shallow = omega arith;
+      base_low = omega arith;
+      base_high = omega arith;
+      unlocked = record {
+        second = ap (λ (at : ℕ → ℕ). at 1) (sym same) ∙ h.unlocked.second;
+        third = ap (λ (at : ℕ → ℕ). at 2) (sym same) ∙ h.unlocked.third;
+        locks = λ c l. ap (λ (at : ℕ → ℕ). at (lock_place c)) (sym same) ∙ h.unlocked.locks c (omega (arith, within, h.long));
+      };
+      sound = subst (λ (at : ℕ → ℕ). IsSound at (at 0) 1) same h.sound;
+      cells_used = λ c r. cells_below words used h blank c (subst (λ (at : ℕ → ℕ). IsReached at (at 0) (cell_word c)) (sym same) r);
+      bodies_small = λ n r. h.bodies_small n (subst (λ (at : ℕ → ℕ). IsReached at (at 0) (body_word n)) (sym same) r);
+    }

@@ -3,31 +3,35 @@
 ghost use Rattle.std.specs.Prelude.{◌≡◌, ◌+◌, ◌*◌, ◌<◌, ◌≤◌, ◌^◌, ℕ, length};
 ghost use Rattle.octant_code.specs.Space.{key_of};
 ghost use Rattle.octant_code.specs.Points.{site_at};
-ghost use Rattle.tree_rule.specs.Words.{at_of, cell_word, HasCell, HasBody, IsReached};
+ghost use Rattle.tree_rule.specs.Words.{at_of, HasCell, HasBody, IsReached};
 ghost use Rattle.tree_rule.specs.Flat.{IsPlaceOf, StandsFor};
+ghost use Rattle.octree.specs.Chain.{NamesNoCell};
+ghost use Rattle.octree.specs.Stored.{word_count};
 
-use octant_code::{Points, octant};
-use tree_rule::{Named, named_by, place_of_child};
+use octant_code::{LEVELS, Points, octant};
+use tree_rule::{FIRST_PLACE, Named, named_by, place_of_child};
 
-/// A place among the words, and the level of the cube of the word there.
+/// Where the way down to a point ends: the place of the word there, the level of its cube, and the
+/// body that it names, if it names one.
 #[derive(Clone, Copy, Drop)]
-pub struct Spot {
+pub struct WayEnd {
     pub place: usize,
     pub level: u32,
+    pub body: Option<u32>,
 }
 
 /// The word that names no cell and whose cube holds the point of `n`, below the root word, whose
 /// cube is of the level `from`.
-pub fn find_place(words: &Vec<u64>, from: u32, points: &Points, n: u32) -> Spot
+pub fn find_place(words: &Vec<u64>, from: u32, points: &Points, n: u32) -> WayEnd
     requires n_in { n < length points.now }
-    requires shallow { from ≤ 21 }
+    requires shallow { from ≤ LEVELS }
     requires stands { StandsFor (site_at points.now) (at_of words.now.items) (at_of words.now.items 0) (key_of (site_at points.now n) from) (HasCell words.now.items) (HasBody words.now.items) }
     requires small { (w : ℕ) → IsReached (at_of words.now.items) (at_of words.now.items 0) w → w < 2 ^ 33 }
-    requires first { 3 ≤ length words.now.items }
-    requires room { (c : ℕ) → HasCell words.now.items c → 3 + 10 * (c + 1) ≤ length words.now.items }
+    requires first { FIRST_PLACE ≤ length words.now.items }
+    requires room { (c : ℕ) → HasCell words.now.items c → word_count (c + 1) ≤ length words.now.items }
     ensures there { IsPlaceOf (at_of words.now.items) 0 (key_of (site_at points.now n) from) (HasCell words.now.items) (key_of (site_at points.now n) result.level) result.place }
-    ensures no_cell { (c : ℕ) → at_of words.now.items result.place ≡ cell_word c → ⊥ }
-    ensures shallow { result.level ≤ 21 }
+    ensures named { NamesNoCell (at_of words.now.items result.place) result.body }
+    ensures shallow { result.level ≤ LEVELS }
     ensures below { from ≤ result.level }
     ensures inside { result.place < length words.now.items }
 {
@@ -36,8 +40,20 @@ pub fn find_place(words: &Vec<u64>, from: u32, points: &Points, n: u32) -> Spot
     let mut level = from;
     'down: loop {
         match named_by(words[place]) {
-            Named::Nothing => return Spot { place, level },
-            Named::Body(_) => return Spot { place, level },
+            Named::Nothing => {
+                return WayEnd {
+                    place,
+                    level,
+                    body: None,
+                };
+            }
+            Named::Body(x) => {
+                return WayEnd {
+                    place,
+                    level,
+                    body: Some(x),
+                };
+            }
             Named::Cell(cell) => {
                 place = place_of_child(cell, octant(p, level));
                 level += 1;

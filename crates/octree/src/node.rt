@@ -3,6 +3,8 @@
 ghost use Rattle.std.specs.Prelude.{◌<◌, ◌^◌};
 ghost use Rattle.octree.specs.Node.{IsNodeOf};
 
+use tree_rule::{Named, named_by};
+
 /// The number of a cell of an octree.
 #[derive(Clone, Copy, Debug, PartialEq, Eq)]
 pub struct CellNo(pub u32);
@@ -20,11 +22,9 @@ pub fn node_of(word: u64) -> Node
     requires { word < 2 ^ 33 }
     ensures { IsNodeOf word result }
 {
-    if word == 0 {
-        Node::Empty
-    } else if word % 2 == 1 {
-        Node::Body((word / 2) as u32)
-    } else {
-        Node::Cell(CellNo((word / 2 - 1) as u32))
+    match named_by(word) {
+        Named::Nothing => Node::Empty,
+        Named::Body(n) => Node::Body(n),
+        Named::Cell(c) => Node::Cell(CellNo(c)),
     }
 }

@@ -1,6 +1,6 @@
 //! The octree of bodies.
 
-use crate::chain::{Cube, part_two};
+use crate::chain::{Cube, cells_of_words, part_two, words_of_cells};
 use crate::count::count_cells;
 use crate::depth::deepest_body;
 use crate::descend::find_place;
@@ -9,15 +9,10 @@ use crate::order::push_order;
 use crate::subtree::Subtree;
 use crate::text::put_tree;
 use bh_outside::{Failed, Sink, TextBuffer};
-use octant_code::{OutOfMemory, Points, key_at};
+use octant_code::{LEVELS, OutOfMemory, Points, key_at};
 use std::alloc::Global;
 use std::marker::Model;
-
-/// How many cells an octree may hold: 21 for each of 65,536 bodies.
-const MOST_CELLS: u32 = 1_376_256;
-
-/// How many cells one insertion may use.
-const CELLS_OF_ONE: u32 = 21;
+use tree_rule::{CELLS_OF_ONE, MOST_CELLS, place_of_child, word_of_body, word_of_cell};
 
 /// How many cells a tree of many points begins with.
 const FIRST_CELLS: u32 = 1024;
@@ -28,8 +23,10 @@ const FIRST_CELLS: u32 = 1024;
 /// words are this project's own). The words that are not used and the locks are 0: only builders of
 /// shared trees write them.
 ///
-/// Contracts see it as `Stored`: its words, the key and the level of its cube, and how many of its
-/// cells are used and held.
+/// The words of the spare cells are room in the list that is not written yet.
+///
+/// Contracts see it as `Stored`: the words of its used cells, the key and the level of its cube, and
+/// how many of its cells are used and held.
 #[derive(Drop)]
 pub struct Octree {
     words: Vec<u64>,
@@ -40,13 +37,14 @@ pub struct Octree {
 }
 
 impl Model for Octree {
-    ghost use Rattle.octree.specs.Stored.{Stored, IsStored};
+    ghost use Rattle.std.specs.Prelude.{◌≤◌, vec_capacity};
+    ghost use Rattle.octree.specs.Stored.{Stored, IsStored, word_count};
 
     ghost Value = { Stored };
 
     ghost view = { λ a. record { words = a.words.items; base = a.base; level = a.level; used = a.used; held = a.held } };
 
-    ghost invariant = { λ a. IsStored (record { words = a.words.items; base = a.base; level = a.level; used = a.used; held = a.held }) };
+    ghost invariant = { λ a. IsStored (record { words = a.words.items; base = a.base; level = a.level; used = a.used; held = a.held }) × (word_count a.held ≤ vec_capacity a.words) };
 }
 
 impl Octree {
@@ -59,30 +57,29 @@ impl Octree {
     ghost use Rattle.bh_outside.specs.Text.{Puts};
     ghost use Rattle.tree_rule.specs.Words.{at_of, child_place, HasBody, HasCell};
     ghost use Rattle.octree.specs.Node.{IsNodeOf};
-    ghost use Rattle.octree.specs.Stored.{AreOctreeWords, IsCanonical, IsInserted, IsRoomier, IsStored, all_used, cells_of, full_tree, root_word, spare_of, tree_of};
+    ghost use Rattle.octree.specs.Stored.{AreOctreeWords, IsBlankFrom, IsCanonical, IsInserted, IsRoomier, IsStored, all_used, all_words, cells_of, full_tree, root_word, spare_of, tree_of, tree_with_used, word_count};
     ghost use Rattle.octree.specs.Reading.{IsOctreeOf};
     ghost use Rattle.octree.specs.Spot.{IsCellUnder, tree_under};
     ghost use Rattle.bh_model.specs.Trees.{height};
 
     /// The empty tree of the whole cube, with spare cells: at most 1,376,256.
     pub fn empty(alloc: Global, cells: u32) -> Result<Octree, OutOfMemory>
-        requires { cells ≤ 1376256 }
+        requires { cells ≤ MOST_CELLS }
         ensures base { IfOk result (λ t. t.base ≡ 1) }
         ensures level { IfOk result (λ t. t.level ≡ 0) }
         ensures used { IfOk result (λ t. t.used ≡ 0) }
         ensures held { IfOk result (λ t. t.held ≡ cells) }
         ensures empty { IfOk result (λ t. root_word t ≡ 0) }
     {
-        match vec![in alloc; 0u64; 3 + 10 * cells as usize] {
-            Ok(words) => Ok(Octree {
-                words,
-                base: 1,
-                level: 0,
-                used: 0,
-                held: cells,
-            }),
-            Err(_) => Err(OutOfMemory),
-        }
+        let mut words = Vec::with_capacity(alloc, words_of_cells(cells))?;
+        words.resize(words_of_cells(0), 0)?;
+        Ok(Octree {
+            words,
+            base: 1,
+            level: 0,
+            used: 0,
+            held: cells,
+        })
     }
 
     /// How many cells the octree has, reachable or not, the spare ones among them. The numbers of its
@@ -94,19 +91,30 @@ impl Octree {
         self.held
     }
 
-    /// The words of a tree of the whole cube. It takes no memory.
+    /// The words of a tree of the whole cube, those of its spare cells too, which are 0. It takes no
+    /// memory.
     ///
-    /// Made a tree again by `of_words`, they are this tree, its spare cells counted as used.
+    /// Made a tree again by `of_words`, they are this tree, its spare cells counted as used; by
+    /// `with_used`, they are this tree.
     pub fn into_words(self) -> Vec<u64>
         requires { self.base ≡ 1 }
-        ensures words { result.items ≡ self.words }
-        ensures count { length result.items ≡ 3 + 10 * self.held }
+        ensures words { result.items ≡ all_words self }
+        ensures count { length result.items ≡ word_count self.held }
         ensures rule { IsStored self }
         ensures of_words { AreOctreeWords result.items }
+        ensures spare { IsBlankFrom result.items self.used }
         ensures tree { full_tree result.items ≡ all_used self }
+        ensures again { tree_with_used result.items self.used ≡ self }
     {
-        let Octree { words, .. } = self;
-        words
+        let Octree {
+            mut words,
+            held,
+            ..
+        } = self;
+        match words.resize(words_of_cells(held), 0) {
+            Ok(()) => words,
+            Err(_) => unreachable!(),
+        }
     }
 
     /// The tree of the whole cube that has the words, each cell with the number that it has there. It
@@ -114,10 +122,10 @@ impl Octree {
     pub fn of_words(words: Vec<u64>) -> Octree
         requires { AreOctreeWords words.items }
         ensures tree { result ≡ full_tree words.items }
-        ensures count { length words.items ≡ 3 + 10 * result.held }
+        ensures count { length words.items ≡ word_count result.held }
         ensures full { spare_of result ≡ 0 }
     {
-        let held = ((words.len() - 3) / 10) as u32;
+        let held = cells_of_words(words.len());
         Octree {
             words,
             base: 1,
@@ -125,6 +133,35 @@ impl Octree {
             used: held,
             held,
         }
+    }
+
+    /// The tree of the whole cube that has the words, each cell with the number that it has there,
+    /// and whose cells from number `used` on, the words of which are 0, are spare. It takes no memory.
+    pub fn with_used(words: Vec<u64>, used: u32) -> Octree
+        requires words { AreOctreeWords words.items }
+        requires within { word_count used ≤ length words.items }
+        requires spare { IsBlankFrom words.items used }
+        ensures tree { result ≡ tree_with_used words.items used }
+        ensures count { length words.items ≡ word_count result.held }
+    {
+        let mut words = words;
+        let cells = cells_of_words(words.len());
+        words.truncate(words_of_cells(used));
+        Octree {
+            words,
+            base: 1,
+            level: 0,
+            used,
+            held: cells,
+        }
+    }
+
+    /// How many cells are used, reachable or not. The numbers of the cells that can be reached are
+    /// below.
+    pub fn used(&self) -> u32
+        ensures { result ≡ self.now.used }
+    {
+        self.used
     }
 
     /// How many cells are spare.
@@ -144,7 +181,7 @@ impl Octree {
     /// The word at a place.
     #[inline]
     pub(crate) fn word_at(&self, place: usize) -> u64
-        requires { place < 3 + 10 * self.now.held }
+        requires { place < word_count self.now.used }
         ensures { result ≡ at_of self.now.words place }
     {
         self.words[place]
@@ -155,8 +192,9 @@ impl Octree {
         ensures rule { IsStored self.now }
         ensures octree { result.octree ≡ self.now }
         ensures tree { tree_under result ≡ tree_of self.now }
-        ensures height { height (tree_under result) ≤ 21 }
+        ensures height { height (tree_under result) ≤ LEVELS }
         ensures cells { (c : ℕ) → HasCell self.now.words c → IsCellUnder result c }
+        ensures bodies { (n : ℕ) → IsIn (order (tree_of self.now)) n ↔ HasBody self.now.words n }
     {
         Subtree {
             octree: self,
@@ -170,12 +208,12 @@ impl Octree {
         requires octant { k < 8 }
         ensures { IsNodeOf (at_of self.now.words (child_place c.0 k)) result }
     {
-        node_of(self.words[3 + 10 * c.0 as usize + k as usize])
+        node_of(self.words[place_of_child(c.0, k)])
     }
 
     /// Inserts body `n`, which takes at most 21 of the spare cells and no memory.
     pub fn insert(&mut self, points: &Points, n: u32)
-        requires room { 21 ≤ spare_of self.old }
+        requires room { CELLS_OF_ONE ≤ spare_of self.old }
         requires n_in { n < length points.now }
         requires under { IsUnder self.old.base (site_at points.now n) }
         requires canonical { IsCanonical points.now self.old }
@@ -184,28 +222,25 @@ impl Octree {
         ensures inserted { IsInserted n self.old self.new }
     {
         let _rule = points.len();
-        let spot = find_place(&self.words, self.level, points, n);
-        let word = self.words[spot.place];
-        if word == 0 {
-            self.words[spot.place] = 2 * u64::from(n) + 1;
-        } else {
-            // The cube that holds the points of two bodies is not of the last level.
-            let x = (word / 2) as u32;
-            let _other = points.at(x);
-            let cube = Cube {
-                key: key_at(points.at(n), spot.level),
-                level: spot.level,
-            };
-            let next = part_two(&mut self.words, self.used, points, x, n, cube);
-            self.words[spot.place] = 2 * u64::from(self.used) + 2;
-            self.used = next;
+        let end = find_place(&self.words, self.level, points, n);
+        match end.body {
+            None => self.words[end.place] = word_of_body(n),
+            Some(x) => {
+                let cube = Cube {
+                    key: key_at(points.at(n), end.level),
+                    level: end.level,
+                };
+                let next = part_two(&mut self.words, self.used, points, x, n, cube);
+                self.words[end.place] = word_of_cell(self.used);
+                self.used = next;
+            }
         }
     }
 
     /// Makes room for at least `cells` spare cells, and for as many again as are held, so that a tree
     /// that grows one body at a time takes memory only a few times.
     pub fn reserve(&mut self, cells: u32) -> Result<(), OutOfMemory>
-        requires { self.old.used + cells ≤ 1376256 }
+        requires { self.old.used + cells ≤ MOST_CELLS }
         ensures room { OnOk result (cells ≤ spare_of self.new) }
         ensures stays { IsRoomier self.old self.new }
         ensures refused { OnErr result (self.new ≡ self.old) }
@@ -214,13 +249,10 @@ impl Octree {
             return Ok(());
         }
         let held = MOST_CELLS.min((self.used + cells).max(2 * self.held));
-        match self.words.resize(3 + 10 * held as usize, 0) {
-            Ok(()) => {
-                self.held = held;
-                Ok(())
-            }
-            Err(_) => Err(OutOfMemory),
-        }
+        let more = words_of_cells(held) - self.words.len();
+        self.words.reserve_exact(more)?;
+        self.held = held;
+        Ok(())
     }
 
     /// A tree of the whole cube that is canonical at points is the canonical octree of any list of its

@@ -1,61 +1,47 @@
-use Rattle.std.proofs.Common.{arith, ◌≡◌, ◌+◌, ◌*◌, ◌<◌, ap, sym, subst, ◌∙◌, add-one, slice_set}
-use Rattle.octree.specs.Stored.{AreUnlocked}
-use Rattle.octant_code.specs.Space.{IsInCube, Site, key_of, octant_of}
+use Rattle.std.proofs.Common.{ℕ, arith, ◌≡◌, ◌+◌, ◌*◌, ◌∙◌, ap, slice_set, subst, sym}
+use Rattle.octant_code.specs.Space.{octant_of}
 use Rattle.octant_code.specs.Points.{site_at}
-use Rattle.octant_code.proofs.Keys.{key-next-fits, key-suc}
-use Rattle.octree.proofs.Chains.{forked, key_deeper, level_deeper, linked}
-use Rattle.octree.proofs.Locks.{unlocked_in_cell}
+use Rattle.octant_code.proofs.Keys.{key-next-fits}
+use Rattle.octree.proofs.Chains.{forked, linked, pair_deeper}
+use Rattle.octree.proofs.Locks.{unlocked_in_cell, unlocked_more}
 use Rattle.octree.proofs.Words.{at_set_other, set_length}
+use Rattle.octree.specs.Chain.{ArePair, IsOneOf, IsTaken}
+use Rattle.tree_rule.specs.Flat.{StandsFor}
+use Rattle.tree_rule.specs.Words.{at_of, cell_word}
+use Rattle.octree.proofs.chain.+part_two.Goals.{After-add_cell}
 use Rattle.octree.proofs.chain.+part_two.Goals as goal
 
+-- the octant of body `x`
+octant_x : (t : ℕ) (c : After-add_cell t) → c.octant-a.result ≡ octant_of (site_at c.args.points.now c.args.x) c.args.cube.level
+octant_x t c = c.octant-a.ensures.value ∙ ap (λ s. octant_of s c.args.cube.level) c.at-q.ensures.value
+
+-- the octant of body `n`
+octant_n : (t : ℕ) (c : After-add_cell t) → c.octant-b.result ≡ octant_of (site_at c.args.points.now c.args.n) c.args.cube.level
+octant_n t c = c.octant-b.ensures.value ∙ ap (λ s. octant_of s c.args.cube.level) c.at-p.ensures.value
+
 pub overflow_mul-inner : goal.overflow_mul-inner
-overflow_mul-inner t c = omega (arith, key-next-fits (site_at c.args.points.now c.args.n) c.args.cube.level (omega arith), c.requires.key)
+overflow_mul-inner t c = omega (arith, key-next-fits (site_at c.args.points.now c.args.n) c.args.cube.level (omega arith), c.requires.pair.n_under)
 
 pub overflow_add-inner : goal.overflow_add-inner
-overflow_add-inner t c = omega (arith, key-next-fits (site_at c.args.points.now c.args.n) c.args.cube.level (omega arith), c.requires.key, c.octant-b.ensures.small, c.from.ensures)
+overflow_add-inner t c = omega (arith, key-next-fits (site_at c.args.points.now c.args.n) c.args.cube.level (omega arith), c.requires.pair.n_under, c.octant-b.ensures.small, c.from.ensures)
 
-pub part_two-next-requires : goal.part_two-next-requires
-part_two-next-requires t c =
-    let key = c.args.cube.key in
-    let ws = c.args.words.now.items in
+pub part_two-requires : goal.part_two-requires
+part_two-requires t c =
     let sites = c.args.points.now in
-    let ox : c.octant-a.result ≡ octant_of (site_at sites c.args.x) c.args.cube.level = c.octant-a.ensures.value ∙ ap (λ s. octant_of s c.args.cube.level) c.at-q.ensures.value in
-    let on : c.octant-b.result ≡ octant_of (site_at sites c.args.n) c.args.cube.level = c.octant-b.ensures.value ∙ ap (λ s. octant_of s c.args.cube.level) c.at-p.ensures.value in
-    let same : octant_of (site_at sites c.args.x) c.args.cube.level ≡ octant_of (site_at sites c.args.n) c.args.cube.level = sym ox ∙ c.if-a-b.true ∙ on in
-    let room = c.requires.room in
-    let inside_x : IsInCube (site_at sites c.args.x) = subst (λ (s : Site). IsInCube s) c.at-q.ensures.value c.at-q.ensures.inside in
-    let inside_n : IsInCube (site_at sites c.args.n) = subst (λ (s : Site). IsInCube s) c.at-p.ensures.value c.at-p.ensures.inside in
-    let deep : c.args.cube.level < 20 =
-    level_deeper sites c.args.x c.args.n c.args.cube.level c.requires.rule inside_x inside_n c.requires.x_in c.requires.n_in c.requires.differ c.requires.shallow c.requires.together same in (
-      omega arith,
+    let d = goal.at.part_two-requires t c in
+    let pair = pair_deeper sites c.args.x c.args.n c.args.cube.key c.args.cube.level c.octant-b.result c.requires.rule c.requires.pair (sym c.if-a-b.true ∙ octant_x t d.After-add_cell) (octant_n t d.After-add_cell) in
+    let first = c.add_cell.new.words.items in
+    let added = unlocked_more c.args.words.now.items first c.args.used (c.args.used + 1) c.requires.unlocked c.requires.len c.add_cell.ensures.same in
+    let keyed = unlocked_in_cell first (c.args.used + 1) c.args.used 8 c.place_of_key.result c.args.cube.key added (omega (arith, c.place_of_key.ensures)) (omega arith) in
+    let named = unlocked_in_cell _ (c.args.used + 1) c.args.used c.octant-b.result c.place_of_child.result c.word_of_cell.result keyed c.place_of_child.ensures (omega (arith, c.octant-b.ensures.small)) in (
+      omega (arith, pair.shallow),
       (
-        omega arith,
+        omega (arith, c.requires.few, pair.shallow),
         (
-          omega (arith, c.requires.few),
+          omega (arith, set_length (slice_set first c.place_of_key.result c.args.cube.key) c.place_of_child.result c.word_of_cell.result, set_length first c.place_of_key.result c.args.cube.key, c.add_cell.ensures.len),
           (
-            omega (arith, room, set_length ws (3 + 10 * c.args.used + 8) key),
-            (
-              (λ i l. at_set_other ws (3 + 10 * c.args.used + 8) i key (λ h. omega arith) ∙ c.requires.blank i (omega arith)),
-              (
-                unlocked_in_cell ws c.args.used 8 key c.requires.unlocked (omega arith),
-                (
-                  c.requires.rule,
-                  (
-                    c.requires.x_in,
-                    (
-                      c.requires.n_in,
-                      (
-                        c.requires.differ,
-                        (
-                          rw add-one (omega (arith, key-suc (site_at sites c.args.n) c.args.cube.level, c.requires.key, on, c.from.ensures)),
-                          rw add-one (key_deeper sites c.args.x c.args.n c.args.cube.level c.requires.together same),
-                        ),
-                      ),
-                    ),
-                  ),
-                ),
-              ),
-            ),
+            omega (arith, c.requires.room, c.add_cell.ensures.room, pair.shallow),
+            (named, (c.requires.rule, subst (λ (y : ℕ). ArePair sites c.args.x c.args.n (8 * c.args.cube.key + y) (c.args.cube.level + 1)) (sym c.from.ensures) pair)),
           ),
         ),
       ),
@@ -63,43 +49,38 @@ part_two-next-requires t c =
 
 pub returns-then-a-b-clause-kept : goal.returns-then-a-b-clause-kept
 returns-then-a-b-clause-kept t c = λ i l.
-    at_set_other c.part_two-next.new.words.items (3 + 10 * c.args.used + c.octant-a.result) i c.word_of_cell.result (λ h. omega arith)
-    ∙ c.part_two-next.ensures.kept i (omega arith)
-    ∙ at_set_other c.args.words.now.items (3 + 10 * c.args.used + 8) i c.args.cube.key (λ h. omega arith)
-
-pub returns-then-a-b-clause-unlocked : goal.returns-then-a-b-clause-unlocked
-returns-then-a-b-clause-unlocked t c =
-    unlocked_in_cell c.part_two-next.new.words.items c.args.used c.octant-a.result c.word_of_cell.result c.part_two-next.ensures.unlocked (omega (arith, c.octant-a.ensures.small))
+    c.part_two.ensures.kept i (omega arith)
+    ∙ at_set_other _ c.place_of_child.result i c.word_of_cell.result (λ e. omega (arith, e, c.place_of_child.ensures))
+    ∙ at_set_other _ c.place_of_key.result i c.args.cube.key (λ e. omega (arith, e, c.place_of_key.ensures))
+    ∙ ap (λ (at : ℕ → ℕ). at i) c.add_cell.ensures.same
 
 pub returns-then-a-b-clause-stands : goal.returns-then-a-b-clause-stands
 returns-then-a-b-clause-stands t c =
-    let sites = c.args.points.now in
-    let key_is : c.args.cube.key ≡ key_of (site_at sites c.args.n) c.args.cube.level = c.requires.key in
-    let on : c.octant-a.result ≡ octant_of (site_at sites c.args.n) c.args.cube.level =
-    c.if-a-b.true ∙ c.octant-b.ensures.value ∙ ap (λ s. octant_of s c.args.cube.level) c.at-p.ensures.value in
-    let room = c.requires.room in
-    linked (site_at sites) c.args.words.now.items c.part_two-next.new.words.items c.args.used c.part_two-next.result c.octant-a.result c.args.cube.key c.args.cube.level c.args.x c.args.n
-    c.word_of_cell.result c.part_two-next.ensures.len c.part_two-next.ensures.kept c.requires.blank (omega (arith, room, c.requires.shallow)) c.part_two-next.ensures.more
-    c.requires.shallow c.requires.differ c.requires.together key_is on c.word_of_cell.ensures c.part_two-next.ensures.stands
+    linked c.args.points.now c.args.words.now.items c.add_cell.new.words.items c.part_two.new.words.items c.args.used c.part_two.result c.octant-b.result c.args.cube.key c.args.cube.level
+    c.args.x c.args.n c.place_of_key.result c.place_of_child.result c.word_of_cell.result c.requires.len c.add_cell.ensures.len c.add_cell.ensures.same c.place_of_key.ensures
+    c.place_of_child.ensures c.octant-b.ensures.small c.word_of_cell.ensures c.part_two.ensures.kept c.part_two.ensures.more c.requires.pair
+    (subst (λ (y : ℕ). StandsFor (site_at c.args.points.now) (at_of c.part_two.new.words.items) (cell_word (c.args.used + 1)) (8 * c.args.cube.key + y) (IsTaken (c.args.used + 1) c.part_two.result) (IsOneOf c.args.x c.args.n))
+    c.from.ensures c.part_two.ensures.stands)
+
+pub returns-else-a-b-clause-kept : goal.returns-else-a-b-clause-kept
+returns-else-a-b-clause-kept t c = λ i l.
+    at_set_other _ c.place_of_child-else-a-b-2.result i c.word_of_body-else-a-b.result (λ e. omega (arith, e, c.place_of_child-else-a-b-2.ensures))
+    ∙ at_set_other _ c.place_of_child-else-a-b.result i c.word_of_body.result (λ e. omega (arith, e, c.place_of_child-else-a-b.ensures))
+    ∙ at_set_other _ c.place_of_key.result i c.args.cube.key (λ e. omega (arith, e, c.place_of_key.ensures))
+    ∙ ap (λ (at : ℕ → ℕ). at i) c.add_cell.ensures.same
 
 pub returns-else-a-b-clause-unlocked : goal.returns-else-a-b-clause-unlocked
 returns-else-a-b-clause-unlocked t c =
-    let ws = c.args.words.now.items in
-    let used = c.args.used in
-    let v = c.word_of_body.result in
-    let first = slice_set ws (3 + 10 * used + 8) c.args.cube.key in
-    let second = slice_set first (3 + 10 * used + c.octant-a.result) v in
-    let keyed : AreUnlocked first = unlocked_in_cell ws used 8 c.args.cube.key c.requires.unlocked (omega arith) in
-    let one : AreUnlocked second = unlocked_in_cell first used c.octant-a.result v keyed (omega (arith, c.octant-a.ensures.small)) in
-    unlocked_in_cell second used c.octant-b.result c.word_of_body-else-a-b.result one (omega (arith, c.octant-b.ensures.small))
+    let first = c.add_cell.new.words.items in
+    let added = unlocked_more c.args.words.now.items first c.args.used (c.args.used + 1) c.requires.unlocked c.requires.len c.add_cell.ensures.same in
+    let keyed = unlocked_in_cell first (c.args.used + 1) c.args.used 8 c.place_of_key.result c.args.cube.key added (omega (arith, c.place_of_key.ensures)) (omega arith) in
+    let one = unlocked_in_cell _ (c.args.used + 1) c.args.used c.octant-a.result c.place_of_child-else-a-b.result c.word_of_body.result keyed c.place_of_child-else-a-b.ensures (omega (arith, c.octant-a.ensures.small)) in
+    unlocked_in_cell _ (c.args.used + 1) c.args.used c.octant-b.result c.place_of_child-else-a-b-2.result c.word_of_body-else-a-b.result one c.place_of_child-else-a-b-2.ensures (omega (arith, c.octant-b.ensures.small))
 
 pub returns-else-a-b-clause-stands : goal.returns-else-a-b-clause-stands
 returns-else-a-b-clause-stands t c =
-    let sites = c.args.points.now in
-    let key_is : c.args.cube.key ≡ key_of (site_at sites c.args.n) c.args.cube.level = c.requires.key in
-    let ox : c.octant-a.result ≡ octant_of (site_at sites c.args.x) c.args.cube.level = c.octant-a.ensures.value ∙ ap (λ s. octant_of s c.args.cube.level) c.at-q.ensures.value in
-    let on : c.octant-b.result ≡ octant_of (site_at sites c.args.n) c.args.cube.level = c.octant-b.ensures.value ∙ ap (λ s. octant_of s c.args.cube.level) c.at-p.ensures.value in
-    let room = c.requires.room in
-    forked (site_at sites) c.args.words.now.items c.args.used c.octant-a.result c.octant-b.result c.args.cube.key c.args.cube.level c.args.x c.args.n
-    c.word_of_body.result c.word_of_body-else-a-b.result c.requires.blank (omega (arith, room, c.requires.shallow)) c.requires.shallow c.requires.differ c.requires.together
-    key_is ox on c.if-a-b.false c.word_of_body.ensures c.word_of_body-else-a-b.ensures
+    let d = goal.at.returns-else-a-b-clause-stands t c in
+    forked c.args.points.now c.args.words.now.items c.add_cell.new.words.items c.args.used c.octant-a.result c.octant-b.result c.args.cube.key c.args.cube.level c.args.x c.args.n
+    c.place_of_key.result c.place_of_child-else-a-b.result c.place_of_child-else-a-b-2.result c.word_of_body.result c.word_of_body-else-a-b.result c.requires.len c.add_cell.ensures.len
+    c.add_cell.ensures.same c.place_of_key.ensures c.place_of_child-else-a-b.ensures c.place_of_child-else-a-b-2.ensures c.word_of_body.ensures c.word_of_body-else-a-b.ensures c.requires.pair
+    (octant_x t d.After-add_cell) (octant_n t d.After-add_cell) c.if-a-b.false

@@ -1,172 +1,92 @@
-use Rattle.std.proofs.Common.{arith, ◌+◌, ◌*◌, ◌≤◌, ◌/◌, slice_set, sym, subst}
-use Rattle.octant_code.specs.Space.{IsInCube, Site}
+use Rattle.std.proofs.Common.{arith, ◌≡◌, ◌+◌, ◌≤◌, ◌∙◌, ℕ, Option, ap, slice_set, sym, subst}
+use Rattle.octant_code.specs.Space.{key_of}
 use Rattle.octant_code.specs.Points.{site_at}
-use Rattle.octree.proofs.Chains.{level_shallow}
-use Rattle.octree.proofs.Inserts.{IsBeside, IsDone, body_case, can_insert, empty_case, found_at, parted_case, stands_now, stored}
+use Rattle.octree.proofs.Inserts.{CanInsert, IsDone, body_case, can_insert, empty_case, parted_case, stands_now, with_words}
 use Rattle.octree.proofs.ReadWords.{word_small}
+use Rattle.octree.specs.Chain.{IsOneOf, IsTaken, NamesNoCell}
 use Rattle.octree.specs.Stored.{Stored}
+use Rattle.tree_rule.specs.Flat.{StandsFor}
+use Rattle.tree_rule.specs.Words.{at_of, body_word, cell_word}
+use Rattle.octree.proofs.octree.Octree.insert.Goals.{After-find_place-end, In-None, In-Some}
 use Rattle.octree.proofs.octree.Octree.insert.Goals as goal
 
-pub find_place-spot-requires-clause-stands : goal.find_place-spot-requires-clause-stands
-find_place-spot-requires-clause-stands c =
-    let f = c.self.inside in
-    let o = stored f.words.items f.base f.level f.used f.held in
-    let sites = c.args.points.now in
-    let can = can_insert sites c.args.self.now o c.args.n c.self.view_is c.self.invariant c.len-rule.ensures.rule c.requires.n_in c.requires.under c.requires.canonical c.requires.fresh in
-    stands_now sites c.args.self.now o c.args.n can
+-- the octree, by its fields
+abbrev here : After-find_place-end → Stored
+here c = record { words = c.self.inside.words.items; base = c.self.inside.base; level = c.self.inside.level; used = c.self.inside.used; held = c.self.inside.held }
 
-pub find_place-spot-requires-clause-small : goal.find_place-spot-requires-clause-small
-find_place-spot-requires-clause-small c =
-    let f = c.self.inside in λ w r. word_small (stored f.words.items f.base f.level f.used f.held) w c.self.invariant r
+-- what the insertion rests on
+can : (c : After-find_place-end) → CanInsert c.args.points.now (here c) c.args.n
+can c =
+    can_insert c.args.points.now c.args.self.now (here c) c.args.n c.self.view_is c.self.invariant.0 c.len-rule.ensures.rule c.requires.n_in c.requires.under c.requires.canonical c.requires.fresh
+
+-- where the word at the end names nothing
+empty_end : (c : In-None) → at_of c.self.inside.words.items c.find_place-end.result.place ≡ 0
+empty_end c = subst (λ (b : Option ℕ). NamesNoCell (at_of c.self.inside.words.items c.find_place-end.result.place) b) c.in-None.is c.find_place-end.ensures.named
+
+-- where it names a body
+body_end : (c : In-Some) → at_of c.self.inside.words.items c.find_place-end.result.place ≡ body_word c.in-Some.x
+body_end c = subst (λ (b : Option ℕ). NamesNoCell (at_of c.self.inside.words.items c.find_place-end.result.place) b) c.in-Some.is c.find_place-end.ensures.named
+
+-- the octree with the body in an empty word
+none_done : (c : goal.After-self-1) → IsDone c.args.points.now c.args.n c.args.self.now
+    (with_words (here (goal.at.invariant_of-self c).After-find_place-end) (slice_set c.self.inside.words.items c.find_place-end.result.place c.word_of_body.result) c.self.inside.used)
+none_done c =
+    let d = goal.at.invariant_of-self c in
+    let end = c.find_place-end in
+    let after = slice_set c.self.inside.words.items end.result.place c.word_of_body.result in
+    subst (λ (o : Stored). IsDone c.args.points.now c.args.n o (with_words (here d.After-find_place-end) after c.self.inside.used)) c.self.view_is
+    (empty_case c.args.points.now (here d.After-find_place-end) c.args.n end.result.place end.result.level c.word_of_body.result (can d.After-find_place-end) end.ensures.there end.ensures.inside
+    end.ensures.shallow (empty_end d.In-None) c.word_of_body.ensures)
+
+-- the octree with the cells that part two bodies in place of one
+some_done : (c : goal.After-self-in-Some-2-1) → IsDone c.args.points.now c.args.n c.args.self.now
+    (with_words (here (goal.at.invariant_of-self-in-Some c).After-find_place-end) (slice_set c.part_two-next.new.words.items c.find_place-end.result.place c.word_of_cell.result) c.part_two-next.result)
+some_done c =
+    let d = goal.at.invariant_of-self-in-Some c in
+    let end = c.find_place-end in
+    let part = c.part_two-next in
+    let after = slice_set part.new.words.items end.result.place c.word_of_cell.result in
+    let room : c.self.inside.used + 21 ≤ c.self.inside.held = subst (λ (o : Stored). o.used + 21 ≤ o.held) (sym c.self.view_is) (omega (arith, c.requires.room)) in
+    let key : c.key_at.result ≡ key_of (site_at c.args.points.now c.args.n) end.result.level = c.key_at.ensures ∙ ap (λ s. key_of s end.result.level) c.at.ensures.value in
+    subst (λ (o : Stored). IsDone c.args.points.now c.args.n o (with_words (here d.After-find_place-end) after part.result)) c.self.view_is
+    (parted_case c.args.points.now (here d.After-find_place-end) part.new.words.items c.args.n end.result.place end.result.level c.in-Some.x part.result c.word_of_cell.result
+    (can d.After-find_place-end) end.ensures.there end.ensures.inside (body_end d.In-Some) part.ensures.len part.ensures.kept part.ensures.unlocked part.ensures.more
+    (omega (arith, part.ensures.few)) (omega (arith, part.ensures.few, room))
+    (subst (λ (y : ℕ). StandsFor (site_at c.args.points.now) (at_of part.new.words.items) (cell_word c.self.inside.used) y (IsTaken c.self.inside.used part.result) (IsOneOf c.in-Some.x c.args.n)) key part.ensures.stands)
+    c.word_of_cell.ensures)
+
+pub find_place-end-requires-clause-stands : goal.find_place-end-requires-clause-stands
+find_place-end-requires-clause-stands c =
+    let f = c.self.inside in
+    let o : Stored = record { words = f.words.items; base = f.base; level = f.level; used = f.used; held = f.held } in
+    stands_now c.args.points.now o c.args.n
+    (can_insert c.args.points.now c.args.self.now o c.args.n c.self.view_is c.self.invariant.0 c.len-rule.ensures.rule c.requires.n_in c.requires.under c.requires.canonical c.requires.fresh)
+
+pub find_place-end-requires-clause-small : goal.find_place-end-requires-clause-small
+find_place-end-requires-clause-small c =
+    let f = c.self.inside in λ w r. word_small (record { words = f.words.items; base = f.base; level = f.level; used = f.used; held = f.held }) w c.self.invariant.0 r
 
 pub invariant_of-self : goal.invariant_of-self
-invariant_of-self c =
-    let f = c.self.inside in
-    let o = stored f.words.items f.base f.level f.used f.held in
-    let sites = c.args.points.now in
-    let can = can_insert sites c.args.self.now o c.args.n c.self.view_is c.self.invariant c.len-rule.ensures.rule c.requires.n_in c.requires.under c.requires.canonical c.requires.fresh in
-    let spot = c.find_place-spot in
-    let found = found_at sites o c.args.n spot.result.place spot.result.level c.index-word.result.now spot.ensures.there spot.ensures.no_cell spot.ensures.shallow spot.ensures.inside c.index-word.ensures in
-    let done : IsDone sites c.args.n c.args.self.now (stored (slice_set f.words.items spot.result.place (2 * c.from.result + 1)) f.base f.level f.used f.held) =
-    empty_case sites c.args.self.now o c.args.n spot.result.place spot.result.level c.index-word.result.now (2 * c.from.result + 1) can found c.if-word-eq0.true (omega (arith, c.from.ensures)) in
-    done.stored
+invariant_of-self c = ((none_done c).stored, c.self.invariant.1)
 
-pub overflow_cast-x : goal.overflow_cast-x
-overflow_cast-x c =
-    let f = c.self.inside in
-    let o = stored f.words.items f.base f.level f.used f.held in
-    let sites = c.args.points.now in
-    let can = can_insert sites c.args.self.now o c.args.n c.self.view_is c.self.invariant c.len-rule.ensures.rule c.requires.n_in c.requires.under c.requires.canonical c.requires.fresh in
-    let spot = c.find_place-spot in
-    let found = found_at sites o c.args.n spot.result.place spot.result.level c.index-word.result.now spot.ensures.there spot.ensures.no_cell spot.ensures.shallow spot.ensures.inside c.index-word.ensures in
-    let beside : IsBeside sites o c.args.n spot.result.place spot.result.level c.index-word.result.now = body_case sites c.args.self.now o c.args.n spot.result.place spot.result.level c.index-word.result.now can found c.if-word-eq0.false in
-    omega (arith, beside.small)
+pub part_two-next-requires-clause-pair : goal.part_two-next-requires-clause-pair
+part_two-next-requires-clause-pair c =
+    let d = goal.at.part_two-next-requires-clause-pair c in
+    let end = c.find_place-end in
+    body_case c.args.points.now (here d.After-find_place-end) c.args.n end.result.place end.result.level c.key_at.result c.in-Some.x (can d.After-find_place-end) end.ensures.there
+    (body_end d.In-Some) end.ensures.shallow (c.key_at.ensures ∙ ap (λ s. key_of s end.result.level) c.at.ensures.value)
 
-pub part_two-next-requires-clause-shallow : goal.part_two-next-requires-clause-shallow
-part_two-next-requires-clause-shallow c =
-    let f = c.self.inside in
-    let o = stored f.words.items f.base f.level f.used f.held in
-    let sites = c.args.points.now in
-    let can = can_insert sites c.args.self.now o c.args.n c.self.view_is c.self.invariant c.len-rule.ensures.rule c.requires.n_in c.requires.under c.requires.canonical c.requires.fresh in
-    let spot = c.find_place-spot in
-    let found = found_at sites o c.args.n spot.result.place spot.result.level c.index-word.result.now spot.ensures.there spot.ensures.no_cell spot.ensures.shallow spot.ensures.inside c.index-word.ensures in
-    let beside : IsBeside sites o c.args.n spot.result.place spot.result.level c.index-word.result.now = body_case sites c.args.self.now o c.args.n spot.result.place spot.result.level c.index-word.result.now can found c.if-word-eq0.false in
-    let inside_x : IsInCube (site_at sites (c.index-word.result.now / 2)) = subst (λ (s : Site). IsInCube s) c.at-other.ensures.value c.at-other.ensures.inside in
-    let inside_n : IsInCube (site_at sites c.args.n) = subst (λ (s : Site). IsInCube s) c.at.ensures.value c.at.ensures.inside in
-    level_shallow sites (c.index-word.result.now / 2) c.args.n spot.result.level c.len-rule.ensures.rule inside_x inside_n beside.meets.x_in c.requires.n_in beside.differ spot.ensures.shallow beside.meets.together
+pub invariant_of-self-in-Some : goal.invariant_of-self-in-Some
+invariant_of-self-in-Some c = ((some_done c).stored, omega (arith, c.self.invariant.1, c.part_two-next.ensures.room))
 
-pub at-other-requires : goal.at-other-requires
-at-other-requires c =
-    let f = c.self.inside in
-    let o = stored f.words.items f.base f.level f.used f.held in
-    let sites = c.args.points.now in
-    let can = can_insert sites c.args.self.now o c.args.n c.self.view_is c.self.invariant c.len-rule.ensures.rule c.requires.n_in c.requires.under c.requires.canonical c.requires.fresh in
-    let spot = c.find_place-spot in
-    let found = found_at sites o c.args.n spot.result.place spot.result.level c.index-word.result.now spot.ensures.there spot.ensures.no_cell spot.ensures.shallow spot.ensures.inside c.index-word.ensures in
-    let beside : IsBeside sites o c.args.n spot.result.place spot.result.level c.index-word.result.now = body_case sites c.args.self.now o c.args.n spot.result.place spot.result.level c.index-word.result.now can found c.if-word-eq0.false in
-    beside.meets.x_in
+pub returns-in-None-clause-canonical : goal.returns-in-None-clause-canonical
+returns-in-None-clause-canonical c = (none_done c).canonical
 
-pub part_two-next-requires-clause-x_in : goal.part_two-next-requires-clause-x_in
-part_two-next-requires-clause-x_in c =
-    let f = c.self.inside in
-    let o = stored f.words.items f.base f.level f.used f.held in
-    let sites = c.args.points.now in
-    let can = can_insert sites c.args.self.now o c.args.n c.self.view_is c.self.invariant c.len-rule.ensures.rule c.requires.n_in c.requires.under c.requires.canonical c.requires.fresh in
-    let spot = c.find_place-spot in
-    let found = found_at sites o c.args.n spot.result.place spot.result.level c.index-word.result.now spot.ensures.there spot.ensures.no_cell spot.ensures.shallow spot.ensures.inside c.index-word.ensures in
-    let beside : IsBeside sites o c.args.n spot.result.place spot.result.level c.index-word.result.now = body_case sites c.args.self.now o c.args.n spot.result.place spot.result.level c.index-word.result.now can found c.if-word-eq0.false in
-    beside.meets.x_in
+pub returns-in-None-clause-inserted : goal.returns-in-None-clause-inserted
+returns-in-None-clause-inserted c = (none_done c).inserted
 
-pub part_two-next-requires-clause-differ : goal.part_two-next-requires-clause-differ
-part_two-next-requires-clause-differ c =
-    let f = c.self.inside in
-    let o = stored f.words.items f.base f.level f.used f.held in
-    let sites = c.args.points.now in
-    let can = can_insert sites c.args.self.now o c.args.n c.self.view_is c.self.invariant c.len-rule.ensures.rule c.requires.n_in c.requires.under c.requires.canonical c.requires.fresh in
-    let spot = c.find_place-spot in
-    let found = found_at sites o c.args.n spot.result.place spot.result.level c.index-word.result.now spot.ensures.there spot.ensures.no_cell spot.ensures.shallow spot.ensures.inside c.index-word.ensures in
-    let beside : IsBeside sites o c.args.n spot.result.place spot.result.level c.index-word.result.now = body_case sites c.args.self.now o c.args.n spot.result.place spot.result.level c.index-word.result.now can found c.if-word-eq0.false in
-    beside.differ
+pub returns-in-Some-clause-canonical : goal.returns-in-Some-clause-canonical
+returns-in-Some-clause-canonical c = (some_done c).canonical
 
-pub part_two-next-requires-clause-together : goal.part_two-next-requires-clause-together
-part_two-next-requires-clause-together c =
-    let f = c.self.inside in
-    let o = stored f.words.items f.base f.level f.used f.held in
-    let sites = c.args.points.now in
-    let can = can_insert sites c.args.self.now o c.args.n c.self.view_is c.self.invariant c.len-rule.ensures.rule c.requires.n_in c.requires.under c.requires.canonical c.requires.fresh in
-    let spot = c.find_place-spot in
-    let found = found_at sites o c.args.n spot.result.place spot.result.level c.index-word.result.now spot.ensures.there spot.ensures.no_cell spot.ensures.shallow spot.ensures.inside c.index-word.ensures in
-    let beside : IsBeside sites o c.args.n spot.result.place spot.result.level c.index-word.result.now = body_case sites c.args.self.now o c.args.n spot.result.place spot.result.level c.index-word.result.now can found c.if-word-eq0.false in
-    beside.meets.together
-
-pub invariant_of-self-else-word-eq0 : goal.invariant_of-self-else-word-eq0
-invariant_of-self-else-word-eq0 c =
-    let f = c.self.inside in
-    let o = stored f.words.items f.base f.level f.used f.held in
-    let sites = c.args.points.now in
-    let can = can_insert sites c.args.self.now o c.args.n c.self.view_is c.self.invariant c.len-rule.ensures.rule c.requires.n_in c.requires.under c.requires.canonical c.requires.fresh in
-    let spot = c.find_place-spot in
-    let found = found_at sites o c.args.n spot.result.place spot.result.level c.index-word.result.now spot.ensures.there spot.ensures.no_cell spot.ensures.shallow spot.ensures.inside c.index-word.ensures in
-    let part = c.part_two-next in
-    let v = 2 * c.from-else-word-eq0.result + 2 in
-    let room : f.used + 21 ≤ f.held = subst (λ (y : Stored). y.used + 21 ≤ y.held) (sym c.self.view_is) (omega (arith, c.requires.room)) in
-    let done : IsDone sites c.args.n c.args.self.now (stored (slice_set part.new.words.items spot.result.place v) f.base f.level part.result f.held) =
-    parted_case sites c.args.self.now o part.new.words.items c.args.n spot.result.place spot.result.level c.index-word.result.now part.result v can found c.if-word-eq0.false
-    part.ensures.len part.ensures.kept part.ensures.blank part.ensures.unlocked part.ensures.more (omega (arith, part.ensures.few)) (omega (arith, part.ensures.few, room)) part.ensures.stands (omega (arith, c.from-else-word-eq0.ensures)) in
-    done.stored
-
-pub returns-then-word-eq0-clause-canonical : goal.returns-then-word-eq0-clause-canonical
-returns-then-word-eq0-clause-canonical c =
-    let f = c.self.inside in
-    let o = stored f.words.items f.base f.level f.used f.held in
-    let sites = c.args.points.now in
-    let can = can_insert sites c.args.self.now o c.args.n c.self.view_is c.self.invariant c.len-rule.ensures.rule c.requires.n_in c.requires.under c.requires.canonical c.requires.fresh in
-    let spot = c.find_place-spot in
-    let found = found_at sites o c.args.n spot.result.place spot.result.level c.index-word.result.now spot.ensures.there spot.ensures.no_cell spot.ensures.shallow spot.ensures.inside c.index-word.ensures in
-    let done : IsDone sites c.args.n c.args.self.now (stored (slice_set f.words.items spot.result.place (2 * c.from.result + 1)) f.base f.level f.used f.held) =
-    empty_case sites c.args.self.now o c.args.n spot.result.place spot.result.level c.index-word.result.now (2 * c.from.result + 1) can found c.if-word-eq0.true (omega (arith, c.from.ensures)) in
-    done.canonical
-
-pub returns-then-word-eq0-clause-inserted : goal.returns-then-word-eq0-clause-inserted
-returns-then-word-eq0-clause-inserted c =
-    let f = c.self.inside in
-    let o = stored f.words.items f.base f.level f.used f.held in
-    let sites = c.args.points.now in
-    let can = can_insert sites c.args.self.now o c.args.n c.self.view_is c.self.invariant c.len-rule.ensures.rule c.requires.n_in c.requires.under c.requires.canonical c.requires.fresh in
-    let spot = c.find_place-spot in
-    let found = found_at sites o c.args.n spot.result.place spot.result.level c.index-word.result.now spot.ensures.there spot.ensures.no_cell spot.ensures.shallow spot.ensures.inside c.index-word.ensures in
-    let done : IsDone sites c.args.n c.args.self.now (stored (slice_set f.words.items spot.result.place (2 * c.from.result + 1)) f.base f.level f.used f.held) =
-    empty_case sites c.args.self.now o c.args.n spot.result.place spot.result.level c.index-word.result.now (2 * c.from.result + 1) can found c.if-word-eq0.true (omega (arith, c.from.ensures)) in
-    done.inserted
-
-pub returns-else-word-eq0-clause-canonical : goal.returns-else-word-eq0-clause-canonical
-returns-else-word-eq0-clause-canonical c =
-    let f = c.self.inside in
-    let o = stored f.words.items f.base f.level f.used f.held in
-    let sites = c.args.points.now in
-    let can = can_insert sites c.args.self.now o c.args.n c.self.view_is c.self.invariant c.len-rule.ensures.rule c.requires.n_in c.requires.under c.requires.canonical c.requires.fresh in
-    let spot = c.find_place-spot in
-    let found = found_at sites o c.args.n spot.result.place spot.result.level c.index-word.result.now spot.ensures.there spot.ensures.no_cell spot.ensures.shallow spot.ensures.inside c.index-word.ensures in
-    let part = c.part_two-next in
-    let v = 2 * c.from-else-word-eq0.result + 2 in
-    let room : f.used + 21 ≤ f.held = subst (λ (y : Stored). y.used + 21 ≤ y.held) (sym c.self.view_is) (omega (arith, c.requires.room)) in
-    let done : IsDone sites c.args.n c.args.self.now (stored (slice_set part.new.words.items spot.result.place v) f.base f.level part.result f.held) =
-    parted_case sites c.args.self.now o part.new.words.items c.args.n spot.result.place spot.result.level c.index-word.result.now part.result v can found c.if-word-eq0.false
-    part.ensures.len part.ensures.kept part.ensures.blank part.ensures.unlocked part.ensures.more (omega (arith, part.ensures.few)) (omega (arith, part.ensures.few, room)) part.ensures.stands (omega (arith, c.from-else-word-eq0.ensures)) in
-    done.canonical
-
-pub returns-else-word-eq0-clause-inserted : goal.returns-else-word-eq0-clause-inserted
-returns-else-word-eq0-clause-inserted c =
-    let f = c.self.inside in
-    let o = stored f.words.items f.base f.level f.used f.held in
-    let sites = c.args.points.now in
-    let can = can_insert sites c.args.self.now o c.args.n c.self.view_is c.self.invariant c.len-rule.ensures.rule c.requires.n_in c.requires.under c.requires.canonical c.requires.fresh in
-    let spot = c.find_place-spot in
-    let found = found_at sites o c.args.n spot.result.place spot.result.level c.index-word.result.now spot.ensures.there spot.ensures.no_cell spot.ensures.shallow spot.ensures.inside c.index-word.ensures in
-    let part = c.part_two-next in
-    let v = 2 * c.from-else-word-eq0.result + 2 in
-    let room : f.used + 21 ≤ f.held = subst (λ (y : Stored). y.used + 21 ≤ y.held) (sym c.self.view_is) (omega (arith, c.requires.room)) in
-    let done : IsDone sites c.args.n c.args.self.now (stored (slice_set part.new.words.items spot.result.place v) f.base f.level part.result f.held) =
-    parted_case sites c.args.self.now o part.new.words.items c.args.n spot.result.place spot.result.level c.index-word.result.now part.result v can found c.if-word-eq0.false
-    part.ensures.len part.ensures.kept part.ensures.blank part.ensures.unlocked part.ensures.more (omega (arith, part.ensures.few)) (omega (arith, part.ensures.few, room)) part.ensures.stands (omega (arith, c.from-else-word-eq0.ensures)) in
-    done.inserted
+pub returns-in-Some-clause-inserted : goal.returns-in-Some-clause-inserted
+returns-in-Some-clause-inserted c = (some_done c).inserted

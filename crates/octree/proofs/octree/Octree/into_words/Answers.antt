@@ -1,9 +1,26 @@
-use Rattle.std.proofs.Common.{◌∙◌, ap, subst}
-use Rattle.octree.specs.Stored.{IsStored, Stored, full_tree}
-use Rattle.octree.proofs.WholeWords.{full_again}
+use Rattle.std.proofs.Common.{List, ℕ, ◌≡◌, ◌∙◌, ap, subst, sym, vec_len}
+use Rattle.octree.specs.Stored.{AreOctreeWords, IsStored, Stored, all_words, full_tree, tree_with_used}
+use Rattle.octree.proofs.WholeWords.{all_are, filled, full_again, used_again}
+use Rattle.octree.proofs.octree.Octree.into_words.Goals.{In-Ok}
 use Rattle.octree.proofs.octree.Octree.into_words.Goals as goal
 
+-- the octree keeps its rule
+rule : (c : In-Ok) → IsStored c.args.self
+rule c = subst IsStored c.self.view_is c.self.invariant.0
+
+-- the words that are given are those of all cells
+words_are : (c : In-Ok) → c.resize.new.self.items ≡ all_words c.args.self
+words_are c =
+    let f = c.self.inside in
+    subst (λ (o : Stored). c.resize.new.self.items ≡ all_words o) c.self.view_is
+    (filled (record { words = f.words.items; base = f.base; level = f.level; used = f.used; held = f.held }) c.resize.new.self.items c.words_of_cells.result (vec_len f.words)
+    c.self.invariant.0 c.words_of_cells.ensures f.words.ok.0 c.in-Ok.ensures.items)
+
+pub returns-clause-of_words : goal.returns-clause-of_words
+returns-clause-of_words c = subst AreOctreeWords (sym (words_are c)) (all_are c.args.self (rule c) c.requires)
+
 pub returns-clause-tree : goal.returns-clause-tree
-returns-clause-tree c =
-    let rule : IsStored c.args.self = subst IsStored c.self.view_is c.self.invariant in
-    ap (λ (y : Stored). full_tree y.words) c.self.view_is ∙ full_again c.args.self rule c.requires
+returns-clause-tree c = ap full_tree (words_are c) ∙ full_again c.args.self (rule c) c.requires
+
+pub returns-clause-again : goal.returns-clause-again
+returns-clause-again c = ap (λ (words : List ℕ). tree_with_used words c.args.self.used) (words_are c) ∙ used_again c.args.self (rule c) c.requires

@@ -2,8 +2,11 @@ use Rattle.std.proofs.Common.{◌≡◌, ◌<◌, length, arith}
 use Rattle.octant_code.specs.Points.{site_at}
 use Rattle.bh_model.proofs.Lists.{numbers_once}
 use Rattle.bh_model.specs.Bodies.{numbers}
-use Rattle.octree.proofs.Builds.{built_all, built_more, built_roomier, under_whole}
+use Rattle.octree.proofs.Builds.{built_all, built_more, built_none, built_roomier, under_whole}
 use Rattle.octree.proofs.octree.Octree.of_points.Goals as goal
+
+pub loop-n-init : goal.loop-n-init
+loop-n-init c = built_none c.args.points.now c.in_ok-tree.tree c.in_ok-tree.ensures.empty c.in_ok-tree.ensures.base c.in_ok-tree.ensures.used
 
 pub insert-requires-clause-under : goal.insert-requires-clause-under
 insert-requires-clause-under c =
