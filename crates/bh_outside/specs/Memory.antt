@@ -1,5 +1,5 @@
 -- What clauses see of the sources and sinks over memory.
-use Rattle.std.specs.Prelude.{ℕ, Bool, List, ◌++◌, ◌==◌, length, nat_lt, Option, Some, None, if◌then◌else◌}
+use Rattle.std.specs.Prelude.{ℕ, Bool, List, ◌+◌, ◌-◌, ◌^◌, ◌++◌, ◌==◌, length, min, nat_lt, Option, Some, None, Result, Ok, Err, if◌then◌else◌}
 
 -- A source over memory: the bytes that are left, how many a call gives at most, the numbers of the calls that fail, and how many calls and faults there were.
 pub record Giving : Type 0 where
@@ -31,3 +31,8 @@ is_empty_list xs = length xs == 0
 abbrev pub told_after : ℕ → Option (List ℕ) → List ℕ → Option (List ℕ)
 told_after room None bytes = None
 told_after room (Some xs) bytes = if nat_lt room (length (xs ++ bytes)) then None else Some (xs ++ bytes)
+
+-- The count of faults after a call: one more where the call failed, up to the end of its type, and the same where it did not.
+abbrev pub faults_after : {T E : Type 0} → Result T E → ℕ → ℕ
+faults_after (Ok n) faults = faults
+faults_after (Err e) faults = min (faults + 1) (2 ^ 64 - 1)

@@ -4,7 +4,7 @@ ghost use Rattle.std.specs.Prelude.{◌≡◌, ◌+◌, ◌-◌, ◌≤◌, ◌<
 ghost use Rattle.std.specs.Io.{ReadsAtMost};
 ghost use Rattle.std.specs.Io.KnownBytes.{ReadConsumes};
 ghost use Rattle.bh_outside.specs.Outside.{HasCause, KeepsSure, WriteTakes};
-ghost use Rattle.bh_outside.specs.Memory.{is_empty_list, told_after};
+ghost use Rattle.bh_outside.specs.Memory.{faults_after, is_empty_list, told_after};
 
 use crate::{Failed, Sink, Source};
 use octant_code::OutOfMemory;
@@ -96,6 +96,7 @@ impl Source for MemorySource {
         // The number of this call, which stays at its type's end.
         ensures number { self.new.calls ≡ min (self.old.calls + 1) (2 ^ 64 - 1) }
         ensures fails { IsErr result ↔ Contains self.old.failing self.new.calls }
+        ensures counted { self.new.faults ≡ faults_after result self.old.faults }
         ensures gives { IfOk result (λ n. n ≡ min self.old.give (min (length into.old) (length self.old.left))) }
         ensures stays { (self.new.give ≡ self.old.give) × (self.new.failing ≡ self.old.failing) }
     {
@@ -155,17 +156,14 @@ impl MemorySink {
         ensures calls { IfOk result (λ sink. sink.calls ≡ 0) }
         ensures faults { IfOk result (λ sink. sink.faults ≡ 0) }
     {
-        match Vec::with_capacity(alloc, room) {
-            Ok(bytes) => Ok(MemorySink {
-                bytes,
-                room,
-                take,
-                fail,
-                calls: 0,
-                faults: 0,
-            }),
-            Err(_) => Err(OutOfMemory),
-        }
+        Ok(MemorySink {
+            bytes: Vec::with_capacity(alloc, room)?,
+            room,
+            take,
+            fail,
+            calls: 0,
+            faults: 0,
+        })
     }
 
     /// The bytes that it took.
@@ -189,6 +187,7 @@ impl Sink for MemorySink {
         ensures number { self.new.calls ≡ min (self.old.calls + 1) (2 ^ 64 - 1) }
         ensures fails { IsErr result ↔ (Contains self.old.failing self.new.calls
             ⊎ ((self.old.room ≤ length self.old.kept) × (0 < length from.now))) }
+        ensures counted { self.new.faults ≡ faults_after result self.old.faults }
         ensures takes { IfOk result (λ n. n ≡ min self.old.most (min (self.old.room - length self.old.kept) (length from.now))) }
         ensures stays { (self.new.room ≡ self.old.room) × (self.new.most ≡ self.old.most) × (self.new.failing ≡ self.old.failing) }
     {
@@ -235,14 +234,11 @@ impl SureSink {
         ensures bytes { IfOk result (λ sink. sink.told ≡ Some []) }
         ensures room { IfOk result (λ sink. sink.room ≡ room) }
     {
-        match Vec::with_capacity(alloc, room) {
-            Ok(bytes) => Ok(SureSink {
-                bytes,
-                room,
-                over: false,
-            }),
-            Err(_) => Err(OutOfMemory),
-        }
+        Ok(SureSink {
+            bytes: Vec::with_capacity(alloc, room)?,
+            room,
+            over: false,
+        })
     }
 }
 
