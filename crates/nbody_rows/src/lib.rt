@@ -5,6 +5,8 @@
 #[cfg(test)]
 mod calls;
 #[cfg(test)]
+mod ends;
+#[cfg(test)]
 mod frames;
 #[cfg(test)]
 mod made;
@@ -13,7 +15,9 @@ mod plain;
 #[cfg(test)]
 mod regions;
 #[cfg(test)]
-mod runs;
+mod rows;
+#[cfg(test)]
+mod serving;
 #[cfg(test)]
 mod tables;
 #[cfg(test)]

@@ -2,8 +2,8 @@
 
 ghost use Rattle.std.specs.Prelude.{◌<◌, ◌↔◌, All, IsTrue};
 
-use bh_plain::plain_text;
 use bh_outside::{MemorySink, MemorySource};
+use bh_plain::plain_text;
 use nbody_cli::{Status, serve};
 use scene_file::read_scene;
 use std::alloc::Global;

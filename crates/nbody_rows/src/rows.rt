@@ -1,0 +1,163 @@
+//! Runs that end by themselves: what each writes, and its status.
+
+use crate::serving::{gives, run_with, sure_ends};
+use bh_outside::{MemorySource, SureSink};
+use nbody_cli::{Status, serve};
+use std::process::Abort;
+use std::test::Fail;
+
+#[test]
+fn trees_of_scenes(rt: HostRuntime) -> Result<(), Fail> {
+    let rows = [
+        // no body
+        ("", "."),
+        // one body
+        ("body,9,5,6,7\n", "b0"),
+        // two bodies in two octants
+        ("body,1,0,0,0\nbody,1,1048576,0,0\n", "(b0...b1...)"),
+        // the last record needs no newline
+        ("body,1,0,0,0\nbody,1,1048576,0,0", "(b0...b1...)"),
+        // two bodies in opposite corners
+        (
+            "body,1,0,0,0\nbody,1,2097151,2097151,2097151\n",
+            "(b0......b1)",
+        ),
+        // two bodies in one deep cell, one step apart in z
+        (
+            "body,1,0,0,0\nbody,1,0,0,1\n",
+            "(((((((((((((((((((((b0b1......).......).......).......).......).......).......).......).......).......).......).......).......).......).......).......).......).......).......).......).......)",
+        ),
+        // a quoted field, a carriage return and an empty line
+        (
+            "\"body\",\"1\",0,0,0\r\n\nbody,1,1048576,0,0\n",
+            "(b0...b1...)",
+        ),
+    ];
+    for (scene, tree) in rows {
+        let text = format!(in rt.alloc(); "tree {tree}\n")?;
+        gives(&rt, "tree", scene.as_bytes(), Status::Done, text.as_bytes())?;
+    }
+    Ok(())
+}
+
+#[test]
+fn scenes_that_are_refused(rt: HostRuntime) -> Result<(), Fail> {
+    let rows = [
+        ("star,1,0,0,0\n", "bad-record 1"),
+        ("body,1,0,0,0,\n", "bad-record 1"),
+        // cut in the middle of a record
+        ("body,1,0,0,0\nbody,1,5", "bad-record 2"),
+        ("body,1,0,x,0\n", "bad-number 1 4"),
+        ("body,+1,0,0,0\n", "bad-number 1 2"),
+        ("body,,0,0,0\n", "bad-number 1 2"),
+        ("body, 1,0,0,0\n", "bad-number 1 2"),
+        // digits are looked for in all fields before any range
+        ("body,0,x,0,0\n", "bad-number 1 3"),
+        ("body,0,0,0,0\n", "out-of-range 1 2"),
+        ("body,1,0,0,0\nbody,1,0,2097152,0\n", "out-of-range 2 4"),
+        (
+            "body,1,99999999999999999999999999999999999999999999999999,0,0\n",
+            "out-of-range 1 3",
+        ),
+        (
+            "body,1,0,0,0\nbody,1,1,0,0\nbody,1,0,0,0\n",
+            "coincident 3 0 2",
+        ),
+    ];
+    for (scene, fault) in rows {
+        let text = format!(in rt.alloc(); "refused {fault}\n")?;
+        gives(
+            &rt,
+            "tree",
+            scene.as_bytes(),
+            Status::Scene,
+            text.as_bytes(),
+        )?;
+        gives(&rt, "run", scene.as_bytes(), Status::Scene, text.as_bytes())?;
+    }
+    Ok(())
+}
+
+/// The records of so many bodies of one mass, side by side along an axis.
+fn row_of_bodies<R: Abort + AllocGlobal>(rt: &R, count: u32, mass: u32) -> Result<Vec<u8>, Fail> {
+    let mut scene: Vec<u8> = Vec::new(rt.alloc());
+    for x in 0..count {
+        let record = format!(in rt.alloc(); "body,{mass},{x},0,0\n")?;
+        scene.extend_from_slice(record.as_bytes())?;
+    }
+    Ok(scene)
+}
+
+#[test]
+fn scenes_past_a_limit_are_refused(rt: HostRuntime) -> Result<(), Fail> {
+    let heavy = row_of_bodies(&rt, 257, 4_294_967_295)?;
+    gives(
+        &rt,
+        "tree",
+        &heavy,
+        Status::Scene,
+        b"refused mass-total 257\n",
+    )?;
+    let many = row_of_bodies(&rt, 65_537, 1)?;
+    gives(
+        &rt,
+        "tree",
+        &many,
+        Status::Scene,
+        b"refused too-many 65537\n",
+    )?;
+    let long = vec![in rt.alloc(); b','; 16_777_217]?;
+    gives(&rt, "tree", &long, Status::Scene, b"refused too-long\n")
+}
+
+#[test]
+fn words_without_options(rt: HostRuntime) -> Result<(), Fail> {
+    let rows = [
+        "",
+        "walk",
+        "--help",
+        "tree tree",
+        "tree --help",
+        "-- tree",
+        "run --workers",
+        "run --workers 0",
+        "run --workers 65",
+        "run --workers=",
+        "run --probe nothing",
+        "tree --theta 1",
+        "tree --theta 1/0",
+        "tree --g -1",
+        "tree --workers 2 --workers=2",
+        "trial --steps 0",
+    ];
+    let usage =
+        b"usage: nbody tree|passes|run|trial [--builder orig|local|update|partree|space] [--workers N] [--steps N] [--theta T/Q] [--eps2 N] [--g N] [--probe NAME] [--count N] [--seed N] [--shape uniform|corner]\n";
+    for line in rows {
+        gives(&rt, line, b"body,1,0,0,0\n", Status::Usage, usage)?;
+    }
+    Ok(())
+}
+
+#[test]
+fn more_than_forty_words_are_read(rt: HostRuntime) -> Result<(), Fail> {
+    let mut line = String::from_str(rt.alloc(), "tree")?;
+    for _ in 0..60 {
+        line.push_str(" tree")?;
+    }
+    let (status, _) = run_with(&rt, &line, b"", &sure_ends(1000))?;
+    assert_eq!(rt; status, Status::Usage);
+    Ok(())
+}
+
+#[test]
+fn a_sink_that_cannot_fail_ends_done(rt: HostRuntime) -> Result<(), Fail> {
+    let alloc = rt.alloc();
+    let words = crate::serving::words_of(alloc, "tree")?;
+    let mut sink = SureSink::new(alloc, 64)?;
+    let mut nothing = MemorySource::new(Vec::new(alloc), 1, Vec::new(alloc));
+    assert_eq!(rt; serve(&rt, &words, &mut nothing, &mut sink), Status::Done);
+    let scene = b"body,1,0,0,0\nbody,1,1048576,0,0\n".to_vec(alloc)?;
+    let mut bodies = MemorySource::new(scene, 1, Vec::new(alloc));
+    assert_eq!(rt; serve(&rt, &words, &mut bodies, &mut sink), Status::Done);
+    Ok(())
+}

@@ -1,0 +1,71 @@
+//! Runs of the top call over sources and sinks of memory.
+
+use bh_outside::{MemorySink, MemorySource};
+use nbody_cli::{Status, serve};
+use std::alloc::Global;
+use std::process::Abort;
+use std::test::Fail;
+
+/// How the two ends of a run behave: how many bytes a read gives and a write takes at most, the
+/// numbers of the reads and of the writes that fail, and the room of the sink.
+#[derive(Clone, Copy)]
+pub struct Ends<'a> {
+    pub give: usize,
+    pub failing_reads: &'a [u32],
+    pub take: usize,
+    pub failing_writes: &'a [u32],
+    pub room: usize,
+}
+
+/// Ends that never fail, with room for a text of so many bytes.
+pub fn sure_ends(room: usize) -> Ends<'static> {
+    Ends {
+        give: 16,
+        failing_reads: &[],
+        take: 100,
+        failing_writes: &[],
+        room,
+    }
+}
+
+/// Words of the command line, given by one text in which a space stands between two of them.
+pub fn words_of(alloc: Global, line: &str) -> Result<Vec<String>, Fail> {
+    let mut words: Vec<String> = Vec::new(alloc);
+    for word in line.split(' ') {
+        if !word.is_empty() {
+            words.push(String::from_str(alloc, word)?)?;
+        }
+    }
+    Ok(words)
+}
+
+/// How a run of these words over a scene ends, and what it writes.
+pub fn run_with<R: Abort + AllocGlobal>(
+    rt: &R,
+    line: &str,
+    scene: &[u8],
+    ends: &Ends,
+) -> Result<(Status, Vec<u8>), Fail> {
+    let alloc = rt.alloc();
+    let words = words_of(alloc, line)?;
+    let reads = ends.failing_reads.to_vec(alloc)?;
+    let writes = ends.failing_writes.to_vec(alloc)?;
+    let mut source = MemorySource::new(scene.to_vec(alloc)?, ends.give.max(1), reads);
+    let mut sink = MemorySink::new(alloc, ends.room, ends.take.max(1), writes)?;
+    let status = serve(rt, &words, &mut source, &mut sink);
+    Ok((status, sink.bytes().to_vec(alloc)?))
+}
+
+/// The run of these words over a scene ends so, and writes just this text.
+pub fn gives<R: Abort + AllocGlobal>(
+    rt: &R,
+    line: &str,
+    scene: &[u8],
+    wanted: Status,
+    text: &[u8],
+) -> Result<(), Fail> {
+    let (status, written) = run_with(rt, line, scene, &sure_ends(text.len() + 1000))?;
+    assert_eq!(rt; status, wanted, "{line}");
+    assert!(rt; written.as_slice() == text, "{line}");
+    Ok(())
+}
