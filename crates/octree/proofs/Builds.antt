@@ -1,13 +1,17 @@
 -- The octree of the first points.
-use Rattle.std.proofs.Common.{ℕ, ◌+◌, ◌*◌, ◌<◌, ◌≤◌, ◌≡◌, ◌↔◌, sym, ◌∙◌, inl, inr, arith, List, length}
+use Rattle.std.proofs.Common.{ℕ, ◌+◌, ◌*◌, ◌<◌, ◌≤◌, ◌≡◌, ◌↔◌, ◌-◌, sym, ◌∙◌, ap, inl, inr, arith, List, length}
 use Rattle.std.proofs.lemmas.Bool.{cases_lt}
 use Rattle.octant_code.specs.Space.{IsUnder, Site}
 use Rattle.octant_code.proofs.Keys.{key-zero}
-use Rattle.bh_model.proofs.Lists.{in_numbers}
-use Rattle.bh_model.specs.Bodies.{IsIn, numbers}
+use Rattle.bh_model.proofs.Lists.{in_numbers, numbers_once}
+use Rattle.bh_model.specs.Bodies.{IsIn, NoneTwice, numbers}
+use Rattle.bh_model.specs.Trees.{octree, octree_from, order}
+use Rattle.octant_code.specs.Points.{site_at}
+use Rattle.octree.proofs.Subtrees.{bodies_of_tree}
+use Rattle.octree.proofs.WholeWords.{whole_level}
 use Rattle.octree.proofs.ReadWords.{reached_blank}
 use Rattle.octree.proofs.Roomier.{bodies_roomier, roomier_bodies, roomier_canonical}
-use Rattle.octree.specs.Stored.{IsCanonical, IsInserted, IsRoomier, Stored}
+use Rattle.octree.specs.Stored.{IsCanonical, IsInserted, IsRoomier, IsStored, Stored, tree_of}
 use Rattle.tree_rule.proofs.Sound.{forget}
 use Rattle.tree_rule.specs.Words.{HasBody, at_of, body_word}
 
@@ -57,9 +61,14 @@ built_more sites o next i h c s = record {
 pub under_whole : (s : Site) (base : ℕ) → base ≡ 1 → IsUnder base s
 under_whole s base e = (0, omega arith, e ∙ sym (key-zero s))
 
--- where all points were inserted, the bodies are their numbers
-pub built_all : (sites : List Site) (o : Stored) (i : ℕ) → IsBuilt sites o i → i ≡ length sites → (m : ℕ) → HasBody o.words m ↔ IsIn (numbers (length sites)) m
-built_all sites o i h e m = (
-  (λ r. (in_numbers (length sites) m).1 (let b : m < i = (h.bodies m).0 r in omega arith)),
-  (λ r. (h.bodies m).1 (let b : m < length sites = (in_numbers (length sites) m).0 r in omega arith)),
-)
+-- where all points were inserted, the tree is the canonical octree of their numbers
+pub built_tree : (sites : List Site) (o : Stored) (i : ℕ) → IsStored o → IsBuilt sites o i → i ≡ length sites
+    → ((bodies : List ℕ) → NoneTwice bodies → ((m : ℕ) → IsIn (order (tree_of o)) m ↔ IsIn bodies m) → tree_of o ≡ octree_from (site_at sites) (21 - o.level) o.level bodies)
+    → tree_of o ≡ octree (site_at sites) (numbers (length sites))
+built_tree sites o i stored h e tree =
+    let all = numbers (length sites) in
+    let members : (m : ℕ) → IsIn (order (tree_of o)) m ↔ IsIn all m = λ m. (
+      (λ b. (in_numbers (length sites) m).1 (let l : m < i = (h.bodies m).0 ((bodies_of_tree o stored m).0 b) in omega arith)),
+      (λ b. (bodies_of_tree o stored m).1 ((h.bodies m).1 (let l : m < length sites = (in_numbers (length sites) m).0 b in omega arith))),
+    ) in
+    tree all (numbers_once (length sites)) members ∙ ap (λ l. octree_from (site_at sites) (21 - l) l all) (whole_level o stored h.base)

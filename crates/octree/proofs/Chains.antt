@@ -9,6 +9,7 @@ use Rattle.octree.proofs.Words.{at_past, at_set_other, at_set_same, set_length}
 use Rattle.octree.specs.Chain.{ArePair, IsOneOf, IsTaken}
 use Rattle.tree_rule.proofs.Chain.{fork_stands, link_stands}
 use Rattle.tree_rule.proofs.Parts.{Only}
+use Rattle.tree_rule.proofs.Shared.{pair_shares}
 use Rattle.tree_rule.proofs.Walk.{stands_same}
 use Rattle.tree_rule.specs.Flat.{IsShared, StandsFor}
 use Rattle.tree_rule.specs.Words.{at_of, body_word, cell_word, child_place, key_place}
@@ -33,18 +34,10 @@ pair_deeper sites x n key level a rule pair o r =
     }
 
 -- the cube of a pair is shared by both
-pair_shares : (sites : List Site) (x n key level : ℕ) → ArePair sites x n key level → IsShared (site_at sites) (IsOneOf x n) key
-pair_shares sites x n key level pair = record {
-  level = level;
-  shallow = omega (arith, pair.shallow);
-  one = x;
-  other = n;
-  one_in = inl refl;
-  other_in = inr refl;
-  differ = pair.differ;
-  one_under = pair.x_under;
-  other_under = pair.n_under;
-}
+pair_cube : (sites : List Site) (x n key level : ℕ) → ArePair sites x n key level → IsShared (site_at sites) (IsOneOf x n) key
+pair_cube sites x n key level pair =
+    subst (λ (y : ℕ). IsShared (site_at sites) (IsOneOf x n) y) (sym pair.n_under)
+    (pair_shares (site_at sites) x n level (omega (arith, pair.shallow)) pair.differ (sym pair.x_under ∙ pair.n_under))
 
 -- the child words of a cell whose words were added are 0
 blank_child : (words longer : List ℕ) (used j : ℕ) → length words ≡ 3 + 10 * used → at_of longer ≡ at_of words → at_of longer (child_place used j) ≡ 0
@@ -73,7 +66,7 @@ linked sites words longer after used to a key level x n p q value len more same 
       (λ r. elim (same_or_not c used) [ inl e ↦ inl e | inr o ↦ inr (omega (arith, r.0), r.1) ]),
     ))
     (λ m. ((λ r. r), (λ r. r)))
-    (link_stands (site_at sites) (at_of after) used key a (IsTaken (used + 1) to) (IsOneOf x n) key_now (pair_shares sites x n key level pair) small part others)
+    (link_stands (site_at sites) (at_of after) used key a (IsTaken (used + 1) to) (IsOneOf x n) key_now (pair_cube sites x n key level pair) small part others)
 
 -- the cell in which two bodies lie in different octants
 pub forked : (sites : List Site) (words longer : List ℕ) (used a b key level x n p q r v w : ℕ)
@@ -100,6 +93,6 @@ forked sites words longer used a b key level x n p q r v w len more same is_p is
     stands_same (site_at sites) (at_of last) (cell_word used) key (Only used) (IsTaken used (used + 1)) (IsOneOf x n) (IsOneOf x n)
     (λ c. ((λ e. (omega arith, omega arith)), (λ h. omega (arith, h.0, h.1))))
     (λ m. ((λ h. h), (λ h. h)))
-    (fork_stands (site_at sites) (at_of last) used key a b x n key_now (pair_shares sites x n key level pair) sa sb apart
+    (fork_stands (site_at sites) (at_of last) used key a b x n key_now (pair_cube sites x n key level pair) sa sb apart
     (level + 1, omega (arith, pair.shallow), octant_under (site_at sites x) key level a pair.x_under is_a)
     (level + 1, omega (arith, pair.shallow), octant_under (site_at sites n) key level b pair.n_under is_b) a_now b_now others)

@@ -1,193 +1,22 @@
 -- What an insertion leaves.
-use Rattle.std.proofs.Common.{ℕ, ◌+◌, ◌*◌, ◌/◌, ◌<◌, ◌≤◌, ◌≡◌, ◌≢◌, ◌⊎◌, ◌↔◌, refl, sym, ◌∙◌, ap, subst, inl, inr, arith, List, length, slice_set}
-use Rattle.bh_model.specs.Bodies.{IsIn, NoneTwice}
-use Rattle.bh_model.specs.Trees.{octree}
+use Rattle.std.proofs.Common.{ℕ, ◌+◌, ◌*◌, ◌<◌, ◌≤◌, ◌≡◌, ◌≢◌, ◌⊎◌, ◌↔◌, refl, sym, ◌∙◌, ap, subst, inl, inr, arith, List, length, slice_set}
 use Rattle.octant_code.proofs.Apart.{level_shallow}
+use Rattle.octant_code.proofs.Keys.{level_of_key, pow8-mono, same_level}
+use Rattle.octant_code.specs.Points.{ArePoints, site_at}
+use Rattle.octant_code.specs.Space.{IsUnder, Site, key_of}
 use Rattle.octree.proofs.Locks.{unlocked_at_place}
 use Rattle.octree.proofs.Words.{at_set_other, at_set_same, set_length}
 use Rattle.octree.specs.Chain.{ArePair, IsOneOf, IsTaken}
-use Rattle.octree.specs.Stored.{IsCanonical, IsInserted, IsStored, StandsWell, Stored, tree_of}
-use Rattle.tree_rule.specs.Locks.{AreUnlocked}
-use Rattle.tree_rule.proofs.Canonical.{flat_gives_canonical}
+use Rattle.octree.specs.Stored.{IsCanonical, IsInserted, IsStored, StandsWell, Stored, word_count}
 use Rattle.tree_rule.proofs.Graft.{Grafts, graft, key_apart, word_at_place}
 use Rattle.tree_rule.proofs.Parts.{Nothing, Only, stands_body}
 use Rattle.tree_rule.proofs.Sound.{bodies_of_stands, sound_of_stands, stands_of_sound}
 use Rattle.tree_rule.proofs.Walk.{body_reached, cell_reached, stands_moved, stands_same}
 use Rattle.tree_rule.specs.Flat.{ChildPlace, Either, IsPlaceOf, IsWordOf, StandsFor, TopPlace}
+use Rattle.tree_rule.specs.Locks.{AreUnlocked}
 use Rattle.tree_rule.specs.Words.{HasBody, HasCell, at_of, body_word, cell_word, child_place, key_place}
-use Rattle.octant_code.specs.Space.{IsUnder, Site, key_of}
-use Rattle.octant_code.specs.Points.{site_at, ArePoints}
-use Rattle.octant_code.proofs.Keys.{same_level, level_of_key, pow8-mono}
 
--- the words after a graft
-pub record IsGrafted (sites : List Site) (words after : List ℕ) (base : ℕ) (Q M : ℕ → Type 0) : Type 0 where
-  pub stands : StandsWell sites after base
-  pub cells : (c : ℕ) → HasCell after c ↔ (HasCell words c ⊎ Q c)
-  pub bodies : (m : ℕ) → HasBody after m ↔ (HasBody words m ⊎ M m)
-
--- a graft gives words that stand for the bodies of both
-pub grafted : (sites : List Site) (words at_least after : List ℕ) (base : ℕ) (Q M : ℕ → Type 0) (key place w : ℕ)
-    → Grafts (site_at sites) (at_of at_least) (at_of after) 0 base (HasCell words) Q (HasBody words) M (HasBody words) M key place w → IsGrafted sites words after base Q M
-grafted sites words at_least after base Q M key place w g =
-    let whole = graft (site_at sites) (at_of at_least) (at_of after) 0 base (HasCell words) Q (HasBody words) M (HasBody words) M key place w g in
-    let cells : (c : ℕ) → Either (HasCell words) Q c ↔ HasCell after c = cell_reached (site_at sites) (at_of after) (at_of after 0) base (Either (HasCell words) Q) (Either (HasBody words) M) whole in
-    let bodies : (m : ℕ) → Either (HasBody words) M m ↔ HasBody after m = body_reached (site_at sites) (at_of after) (at_of after 0) base (Either (HasCell words) Q) (Either (HasBody words) M) whole in
-    record {
-      stands = stands_same (site_at sites) (at_of after) (at_of after 0) base (Either (HasCell words) Q) (HasCell after) (Either (HasBody words) M) (HasBody after) cells bodies whole;
-      cells = λ c. ((cells c).1, (cells c).0);
-      bodies = λ m. ((bodies m).1, (bodies m).0);
-    }
-
--- a body in place of an empty word
-pub insert_empty : (sites : List Site) (words : List ℕ) (base key place n v : ℕ) → StandsWell sites words base
-    → IsPlaceOf (at_of words) 0 base (HasCell words) key place → place < length words → at_of words place ≡ 0 → IsUnder key (site_at sites n) → v ≡ body_word n
-    → IsGrafted sites words (slice_set words place v) base Nothing (Only n)
-insert_empty sites words base key place n v h there inside empty under is =
-    grafted sites words words (slice_set words place v) base Nothing (Only n) key place (body_word n) (record {
-      before = h;
-      below = stands_body (site_at sites) (at_of (slice_set words place v)) key n (Only n) under;
-      low = omega arith;
-      there = there;
-      no_cell = λ c e. omega (arith, empty);
-      body_joins = λ m e. absurd (omega (arith, empty));
-      changed = record { now = at_set_same words place place v refl inside ∙ is; others = λ i d. at_set_other words place i v d };
-    })
-
--- a place of a word lies below those of cells that are not used
-pub place_used : (words : List ℕ) (base key place used : ℕ) → ((c : ℕ) → HasCell words c → c < used) → IsPlaceOf (at_of words) 0 base (HasCell words) key place → place < 3 + 10 * used
-place_used words base key place used few (TopPlace k e low) = omega arith
-place_used words base key place used few (ChildPlace c j p l k e) = omega (arith, few c p)
-
--- a place of a word stays one where the words of used cells stay
-place_moved : (words next : List ℕ) (base key place used : ℕ) → ((c : ℕ) → HasCell words c → c < used) → ((i : ℕ) → i < 3 + 10 * used → at_of next i ≡ at_of words i)
-    → IsPlaceOf (at_of words) 0 base (HasCell words) key place → IsPlaceOf (at_of next) 0 base (HasCell words) key place
-place_moved words next base key place used few kept (TopPlace k e low) = TopPlace k e low
-place_moved words next base key place used few kept (ChildPlace c j p l k e) =
-    ChildPlace c j p l (k ∙ ap (λ y. 8 * y + j) (sym (kept (key_place c) (omega (arith, few c p))))) e
-
--- a cell with two bodies in place of a body's word
-pub insert_body : (sites : List Site) (words next : List ℕ) (base key place used to x n v : ℕ) → StandsWell sites words base
-    → ((c : ℕ) → HasCell words c → c < used) → ((i : ℕ) → i < 3 + 10 * used → at_of next i ≡ at_of words i)
-    → IsPlaceOf (at_of words) 0 base (HasCell words) key place → place < length next → at_of words place ≡ body_word x
-    → StandsFor (site_at sites) (at_of next) (cell_word used) key (IsTaken used to) (IsOneOf x n) → v ≡ cell_word used
-    → IsGrafted sites words (slice_set next place v) base (IsTaken used to) (IsOneOf x n)
-insert_body sites words next base key place used to x n v h few kept there inside body sub is =
-    let site : ℕ → Site = site_at sites in
-    let low : place < 3 + 10 * used = place_used words base key place used few there in
-    let moved : StandsFor site (at_of next) (at_of words 0) base (HasCell words) (HasBody words) =
-    stands_moved site (at_of words) (at_of next) (at_of words 0) base (HasCell words) (HasBody words)
-    (λ c p. kept (key_place c) (omega (arith, few c p))) (λ c j p l. kept (child_place c j) (omega (arith, few c p))) h in
-    let other : (i : ℕ) → i ≢ place → at_of (slice_set next place v) i ≡ at_of next i = λ i d. at_set_other next place i v d in
-    let same : at_of next place ≡ body_word x = kept place low ∙ body in
-    grafted sites words next (slice_set next place v) base (IsTaken used to) (IsOneOf x n) key place (cell_word used) (record {
-      before = subst (λ (y : ℕ). StandsFor site (at_of next) y base (HasCell words) (HasBody words)) (sym (kept 0 (omega arith))) moved;
-      below = stands_moved site (at_of next) (at_of (slice_set next place v)) (cell_word used) key (IsTaken used to) (IsOneOf x n)
-          (λ c p. other (key_place c) (λ e. omega (arith, p.0))) (λ c j p l. other (child_place c j) (λ e. omega (arith, p.0))) sub;
-      low = omega arith;
-      there = place_moved words next base key place used few kept there;
-      no_cell = λ c e. omega (arith, same);
-      body_joins = λ m e. inl (omega (arith, same));
-      changed = record { now = at_set_same next place place v refl inside ∙ is; others = other };
-    })
-
--- the octree after an insertion
-pub record IsDone (sites : List Site) (n : ℕ) (before after : Stored) : Type 0 where
-  pub stored : IsStored after
-  pub canonical : IsCanonical sites after
-  pub inserted : IsInserted n before after
-
--- a canonical octree has words that stand for its bodies
-pub stands_of : (sites : List Site) (o : Stored) → IsStored o → IsCanonical sites o → StandsWell sites o.words o.base
-stands_of sites o h canon =
-    stands_of_sound (site_at sites) (at_of o.words) (at_of o.words 0) o.base (omega (arith, h.base_low, pow8-mono 0 o.level (omega arith))) h.sound canon.under
-
--- the key of the cube is that of a point in it
-pub base_is : (o : Stored) (s : Site) → IsStored o → IsUnder o.base s → o.base ≡ key_of s o.level
-base_is o s h u = let l : u.0 ≡ o.level = level_of_key s o.base o.level u.0 h.base_low h.base_high u.2 in u.2 ∙ ap (key_of s) l
-
--- an octree with other words and another count of used cells
-abbrev pub with_words : Stored → List ℕ → ℕ → Stored
-with_words o words used = record { words = words; base = o.base; level = o.level; used = used; held = o.held }
-
--- an empty word was found at a level
-pub done_empty : (sites : List Site) (o : Stored) (n place level v : ℕ) → IsStored o → IsCanonical sites o → n < length sites → length sites ≤ 65536
-    → IsPlaceOf (at_of o.words) 0 o.base (HasCell o.words) (key_of (site_at sites n) level) place → place < length o.words → level ≤ 21 → at_of o.words place ≡ 0 → v ≡ body_word n
-    → IsDone sites n o (with_words o (slice_set o.words place v) o.used)
-done_empty sites o n place level v h canon n_in size there inside shallow empty is =
-    let key : ℕ = key_of (site_at sites n) level in
-    let after : List ℕ = slice_set o.words place v in
-    let g = insert_empty sites o.words o.base key place n v (stands_of sites o h canon) there inside empty (level, shallow, refl) is in
-    record {
-      stored = record {
-        few = h.few;
-        long = set_length o.words place v ∙ h.long;
-        used_held = h.used_held;
-        shallow = h.shallow;
-        base_low = h.base_low;
-        base_high = h.base_high;
-        sound = sound_of_stands (site_at sites) (at_of after) (at_of after 0) o.base (HasCell after) (HasBody after) g.stands;
-        unlocked = unlocked_at_place o.words o.used (at_of o.words) o.base (HasCell o.words) key place v h.unlocked there;
-        cells_used = λ c p. elim ((g.cells c).0 p) [ inl q ↦ h.cells_used c q | inr q ↦ absurd q ];
-        bodies_small = λ m b. elim ((g.bodies m).0 b) [ inl q ↦ h.bodies_small m q | inr q ↦ omega arith ];
-      };
-      canonical = record {
-        under = bodies_of_stands (site_at sites) (at_of after) (at_of after 0) o.base (HasCell after) (HasBody after) g.stands;
-        bodies_in = λ m b. elim ((g.bodies m).0 b) [ inl q ↦ canon.bodies_in m q | inr q ↦ omega arith ];
-      };
-      inserted = record {
-        bodies = g.bodies;
-        cells_stay = λ c p. (g.cells c).1 (inl p);
-        keys_stay = λ c p. at_set_other o.words place (key_place c) v (key_apart (at_of o.words) 0 o.base (HasCell o.words) key place c there);
-        base_stays = refl;
-        held_stays = refl;
-        used_more = omega arith;
-        used_few = omega arith;
-      };
-    }
-
--- the word of a body was found at a level, and the two bodies were parted
-pub done_body : (sites : List Site) (o : Stored) (next : List ℕ) (x n place level to v : ℕ) → IsStored o → IsCanonical sites o → n < length sites → length sites ≤ 65536
-    → IsPlaceOf (at_of o.words) 0 o.base (HasCell o.words) (key_of (site_at sites n) level) place → place < length o.words → at_of o.words place ≡ body_word x
-    → length next ≡ 3 + 10 * to → ((i : ℕ) → i < 3 + 10 * o.used → at_of next i ≡ at_of o.words i) → AreUnlocked next to → o.used < to → to ≤ o.used + 21 → to ≤ o.held
-    → StandsFor (site_at sites) (at_of next) (cell_word o.used) (key_of (site_at sites n) level) (IsTaken o.used to) (IsOneOf x n) → v ≡ cell_word o.used
-    → IsDone sites n o (with_words o (slice_set next place v) to)
-done_body sites o next x n place level to v h canon n_in size there inside body len kept unlocked more few fits sub is =
-    let key : ℕ = key_of (site_at sites n) level in
-    let g = insert_body sites o.words next o.base key place o.used to x n v (stands_of sites o h canon) h.cells_used kept there (omega (arith, len, h.long)) body sub is in
-    let had : HasBody o.words x = ((stands_of sites o h canon).names_body key x
-    (subst (λ (y : ℕ). IsWordOf (at_of o.words) (at_of o.words 0) o.base (HasCell o.words) key y) body (word_at_place (at_of o.words) 0 o.base (HasCell o.words) key place there))).0 in
-    let split : (m : ℕ) → HasBody o.words m ⊎ IsOneOf x n m → HasBody o.words m ⊎ (m ≡ n) = λ m b. elim b [
-      | inl q ↦ inl q
-      | inr q ↦ elim q [ inl e ↦ inl (subst (λ (y : ℕ). HasBody o.words y) (sym e) had) | inr e ↦ inr e ]
-    ] in
-    let after : List ℕ = slice_set next place v in
-    record {
-      stored = record {
-        few = h.few;
-        long = set_length next place v ∙ len;
-        used_held = fits;
-        shallow = h.shallow;
-        base_low = h.base_low;
-        base_high = h.base_high;
-        sound = sound_of_stands (site_at sites) (at_of after) (at_of after 0) o.base (HasCell after) (HasBody after) g.stands;
-        unlocked = unlocked_at_place next to (at_of o.words) o.base (HasCell o.words) key place v unlocked there;
-        cells_used = λ c p. elim ((g.cells c).0 p) [ inl q ↦ omega (arith, h.cells_used c q) | inr q ↦ q.1 ];
-        bodies_small = λ m b. elim (split m ((g.bodies m).0 b)) [ inl q ↦ h.bodies_small m q | inr q ↦ omega arith ];
-      };
-      canonical = record {
-        under = bodies_of_stands (site_at sites) (at_of after) (at_of after 0) o.base (HasCell after) (HasBody after) g.stands;
-        bodies_in = λ m b. elim (split m ((g.bodies m).0 b)) [ inl q ↦ canon.bodies_in m q | inr q ↦ omega arith ];
-      };
-      inserted = record {
-        bodies = λ m. ((λ b. split m ((g.bodies m).0 b)), (λ b. (g.bodies m).1 (elim b [ inl q ↦ inl q | inr e ↦ inr (inr e) ])));
-        cells_stay = λ c p. (g.cells c).1 (inl p);
-        keys_stay = λ c p. at_set_other next place (key_place c) v (key_apart (at_of o.words) 0 o.base (HasCell o.words) key place c there) ∙ kept (key_place c) (omega (arith, h.cells_used c p));
-        base_stays = refl;
-        held_stays = refl;
-        used_more = omega arith;
-        used_few = few;
-      };
-    }
+-- ---- before
 
 -- what is known of an octree when a body is to be inserted
 pub record CanInsert (sites : List Site) (o : Stored) (n : ℕ) : Type 0 where
@@ -210,42 +39,189 @@ can_insert sites before o n e stored rule n_in under canonical fresh = record {
   fresh = λ b. fresh (subst (λ (y : Stored). HasBody y.words n) e b);
 }
 
--- its cube holds the point
-pub base_now : (sites : List Site) (o : Stored) (n : ℕ) → CanInsert sites o n → o.base ≡ key_of (site_at sites n) o.level
-base_now sites o n h = base_is o (site_at sites n) h.stored h.under
+-- the key of an octree's cube is not 0
+pub base_positive : (o : Stored) → IsStored o → 1 ≤ o.base
+base_positive o h = omega (arith, h.base_low, pow8-mono 0 o.level (omega arith))
 
--- its words stand for its bodies, below that cube
-pub stands_now : (sites : List Site) (o : Stored) (n : ℕ) → CanInsert sites o n → StandsWell sites o.words (key_of (site_at sites n) o.level)
-stands_now sites o n h = subst (λ (y : ℕ). StandsWell sites o.words y) (base_now sites o n h) (stands_of sites o h.stored h.canonical)
+-- a canonical octree has words that stand for its bodies
+pub stands_of : (sites : List Site) (o : Stored) → IsStored o → IsCanonical sites o → StandsWell sites o.words o.base
+stands_of sites o h canon = stands_of_sound (site_at sites) (at_of o.words) (at_of o.words 0) o.base (base_positive o h) h.sound canon.under
 
--- the place below the root whose cube holds the point
+module _ (sites : List Site) (o : Stored) (n : ℕ) (h : CanInsert sites o n) where
+  -- its cube holds the point
+  base_now : o.base ≡ key_of (site_at sites n) o.level
+  base_now =
+      let l : h.under.0 ≡ o.level = level_of_key (site_at sites n) o.base o.level h.under.0 h.stored.base_low h.stored.base_high h.under.2 in
+      h.under.2 ∙ ap (key_of (site_at sites n)) l
+
+  -- its words stand for its bodies, below that cube
+  pub stands_now : StandsWell sites o.words (key_of (site_at sites n) o.level)
+  stands_now = subst (λ (y : ℕ). StandsWell sites o.words y) base_now (stands_of sites o h.stored h.canonical)
+
+-- the place below a root of a key whose cube, of a level, holds the point
 abbrev pub IsPlaceIn : List Site → Stored → ℕ → ℕ → ℕ → ℕ → Type 0
 IsPlaceIn sites o n base level place = IsPlaceOf (at_of o.words) 0 base (HasCell o.words) (key_of (site_at sites n) level) place
 
--- it is one below the octree's cube
-there_now : (sites : List Site) (o : Stored) (n place level : ℕ) → CanInsert sites o n → IsPlaceIn sites o n (key_of (site_at sites n) o.level) level place → IsPlaceIn sites o n o.base level place
-there_now sites o n place level h there = subst (λ (y : ℕ). IsPlaceIn sites o n y level place) (sym (base_now sites o n h)) there
+-- the words of an octree with others behind them
+pub record IsAppended (o : Stored) (next : List ℕ) (to : ℕ) : Type 0 where
+  pub len : length next ≡ word_count to
+  pub kept : (i : ℕ) → i < word_count o.used → at_of next i ≡ at_of o.words i
+  pub unlocked : AreUnlocked next to
+  pub more : o.used ≤ to
+  pub few : to ≤ o.used + 21
+  pub fits : to ≤ o.held
+
+-- ---- after
+
+-- the octree after an insertion
+pub record IsDone (sites : List Site) (n : ℕ) (before after : Stored) : Type 0 where
+  pub stored : IsStored after
+  pub canonical : IsCanonical sites after
+  pub inserted : IsInserted n before after
+
+-- an octree with other words and another count of used cells
+abbrev pub with_words : Stored → List ℕ → ℕ → Stored
+with_words o words used = record { words = words; base = o.base; level = o.level; used = used; held = o.held }
+
+-- What a word is to publish: cells `Q` that were appended, and bodies `M`, those that the word at the place names and `n`.
+record IsPart (sites : List Site) (o : Stored) (next : List ℕ) (Q M : ℕ → Type 0) (n place level to v : ℕ) : Type 0 where
+  there : IsPlaceIn sites o n (key_of (site_at sites n) o.level) level place
+  inside : place < length o.words
+  appended : IsAppended o next to
+  stands : StandsFor (site_at sites) (at_of next) v (key_of (site_at sites n) level) Q M
+  cells_new : (c : ℕ) → Q c → (o.used ≤ c) × (c < to)
+  no_cell : (c : ℕ) → at_of o.words place ≡ cell_word c → ⊥
+  body_joins : (m : ℕ) → at_of o.words place ≡ body_word m → M m
+  only : (m : ℕ) → M m → HasBody o.words m ⊎ (m ≡ n)
+  joins : M n
+
+module _ (sites : List Site) (o : Stored) (next : List ℕ) (Q M : ℕ → Type 0) (n place level to v : ℕ) (h : CanInsert sites o n) (part : IsPart sites o next Q M n place level to v) where
+  site : ℕ → Site
+  site = site_at sites
+
+  -- the place is below those of cells that are not used
+  place_used : place < word_count o.used
+  place_used = omega (arith, part.inside, h.stored.long)
+
+  -- it is the same place among the longer words
+  place_moved : (key : ℕ) → IsPlaceOf (at_of o.words) 0 o.base (HasCell o.words) key place → IsPlaceOf (at_of next) 0 o.base (HasCell o.words) key place
+  place_moved key (TopPlace k e) = TopPlace k e
+  place_moved key (ChildPlace c j p l k e) =
+      ChildPlace c j p l (k ∙ ap (λ y. 8 * y + j) (sym (part.appended.kept (key_place c) (omega (arith, h.stored.cells_used c p))))) e
+
+  -- it lies below the octree's cube
+  below_base : IsPlaceIn sites o n o.base level place
+  below_base = subst (λ (y : ℕ). IsPlaceIn sites o n y level place) (sym (base_now sites o n h)) part.there
+
+  -- the words after the insertion
+  abbrev after : List ℕ
+  after = slice_set next place v
+
+  other : (i : ℕ) → i ≢ place → at_of after i ≡ at_of next i
+  other i d = at_set_other next place i v d
+
+  kept : (i : ℕ) → i < word_count o.used → at_of next i ≡ at_of o.words i
+  kept = part.appended.kept
+
+  -- the longer words stand for what the words stood for
+  longer : StandsFor (site_at sites) (at_of next) (at_of next 0) o.base (HasCell o.words) (HasBody o.words)
+  longer =
+      subst (λ (y : ℕ). StandsFor (site_at sites) (at_of next) y o.base (HasCell o.words) (HasBody o.words)) (sym (kept 0 (omega arith)))
+      (stands_moved (site_at sites) (at_of o.words) (at_of next) (at_of o.words 0) o.base (HasCell o.words) (HasBody o.words)
+      (λ c p. kept (key_place c) (omega (arith, h.stored.cells_used c p))) (λ c j p l. kept (child_place c j) (omega (arith, h.stored.cells_used c p)))
+      (stands_of sites o h.stored h.canonical))
+
+  -- and the words after the insertion for this and the part
+  both : StandsFor (site_at sites) (at_of after) (at_of after 0) o.base (Either (HasCell o.words) Q) (Either (HasBody o.words) M)
+  both =
+      let same : at_of next place ≡ at_of o.words place = kept place place_used in
+      let inside : place < length next = omega (arith, place_used, part.appended.len, part.appended.more) in
+      graft (site_at sites) (at_of next) (at_of after) 0 o.base (HasCell o.words) Q (HasBody o.words) M (HasBody o.words) M (key_of (site_at sites n) level) place v (record {
+        before = longer;
+        below = stands_moved (site_at sites) (at_of next) (at_of after) v (key_of (site_at sites n) level) Q M
+            (λ c p. let new = part.cells_new c p in other (key_place c) (λ e. omega (arith, new.0, place_used)))
+            (λ c j p l. let new = part.cells_new c p in other (child_place c j) (λ e. omega (arith, new.0, place_used))) part.stands;
+        there = place_moved (key_of (site_at sites n) level) below_base;
+        no_cell = λ c e. part.no_cell c (sym same ∙ e);
+        body_joins = λ m e. part.body_joins m (sym same ∙ e);
+        changed = record { now = at_set_same next place place v refl inside; others = other };
+      })
+
+  cells_now : (c : ℕ) → Either (HasCell o.words) Q c ↔ HasCell after c
+  cells_now = cell_reached (site_at sites) (at_of after) (at_of after 0) o.base (Either (HasCell o.words) Q) (Either (HasBody o.words) M) both
+
+  bodies_now : (m : ℕ) → Either (HasBody o.words) M m ↔ HasBody after m
+  bodies_now = body_reached (site_at sites) (at_of after) (at_of after 0) o.base (Either (HasCell o.words) Q) (Either (HasBody o.words) M) both
+
+  stands_after : StandsWell sites after o.base
+  stands_after = stands_same (site_at sites) (at_of after) (at_of after 0) o.base (Either (HasCell o.words) Q) (HasCell after) (Either (HasBody o.words) M) (HasBody after) cells_now bodies_now both
+
+  -- its bodies are those that the octree had, and the new one
+  body_after : (m : ℕ) → HasBody after m → HasBody o.words m ⊎ (m ≡ n)
+  body_after m b = elim ((bodies_now m).1 b) [ inl had ↦ inl had | inr joined ↦ part.only m joined ]
+
+  -- the octree after the insertion
+  done : IsDone sites n o (with_words o after to)
+  done = record {
+    stored = record {
+      few = h.stored.few;
+      long = set_length next place v ∙ part.appended.len;
+      used_held = part.appended.fits;
+      shallow = h.stored.shallow;
+      base_low = h.stored.base_low;
+      base_high = h.stored.base_high;
+      sound = sound_of_stands (site_at sites) (at_of after) (at_of after 0) o.base (HasCell after) (HasBody after) stands_after;
+      unlocked = unlocked_at_place next to (at_of o.words) o.base (HasCell o.words) (key_of (site_at sites n) level) place v part.appended.unlocked below_base;
+      cells_used = λ c p. elim ((cells_now c).1 p) [ inl had ↦ omega (arith, h.stored.cells_used c had, part.appended.more) | inr new ↦ (part.cells_new c new).1 ];
+      bodies_small = λ m b. elim (body_after m b) [ inl had ↦ h.stored.bodies_small m had | inr e ↦ omega (arith, e, h.n_in, h.rule.few) ];
+    };
+    canonical = record {
+      under = bodies_of_stands (site_at sites) (at_of after) (at_of after 0) o.base (HasCell after) (HasBody after) stands_after;
+      bodies_in = λ m b. elim (body_after m b) [ inl had ↦ h.canonical.bodies_in m had | inr e ↦ omega (arith, e, h.n_in) ];
+    };
+    inserted = record {
+      bodies = λ m. (body_after m, (λ b. (bodies_now m).0 (elim b [ inl had ↦ inl had | inr e ↦ inr (subst M (sym e) part.joins) ])));
+      cells_stay = λ c p. (cells_now c).0 (inl p);
+      keys_stay = λ c p.
+          other (key_place c) (key_apart (at_of o.words) 0 o.base (HasCell o.words) (key_of (site_at sites n) level) place c (omega arith) below_base) ∙ kept (key_place c) (omega (arith, h.stored.cells_used c p));
+      base_stays = refl;
+      held_stays = refl;
+      used_more = part.appended.more;
+      used_few = part.appended.few;
+    };
+  }
 
 -- where the word is empty, the body takes its place
 pub empty_case : (sites : List Site) (o : Stored) (n place level v : ℕ) → CanInsert sites o n → IsPlaceIn sites o n (key_of (site_at sites n) o.level) level place
     → place < length o.words → level ≤ 21 → at_of o.words place ≡ 0 → v ≡ body_word n → IsDone sites n o (with_words o (slice_set o.words place v) o.used)
 empty_case sites o n place level v h there inside shallow empty is =
-    done_empty sites o n place level v h.stored h.canonical h.n_in h.rule.few (there_now sites o n place level h there) inside shallow empty is
+    done sites o o.words Nothing (Only n) n place level o.used v h (record {
+      there = there;
+      inside = inside;
+      appended = record { len = h.stored.long; kept = λ i l. refl; unlocked = h.stored.unlocked; more = omega arith; few = omega arith; fits = h.stored.used_held };
+      stands = subst (λ (y : ℕ). StandsFor (site_at sites) (at_of o.words) y (key_of (site_at sites n) level) Nothing (Only n)) (sym is)
+          (stands_body (site_at sites) (at_of o.words) (key_of (site_at sites n) level) n (Only n) (level, shallow, refl));
+      cells_new = λ c p. absurd p;
+      no_cell = λ c e. omega (arith, empty);
+      body_joins = λ m e. absurd (omega (arith, empty));
+      only = λ m e. inr e;
+      joins = refl;
+    })
 
--- the number of the body that a word names is that of a point
-pub body_in : (sites : List Site) (o : Stored) (n place level x : ℕ) → CanInsert sites o n → IsPlaceIn sites o n (key_of (site_at sites n) o.level) level place
+-- the body that the word at a place names is one of the octree's, and its point lies in the place's cube
+body_there : (sites : List Site) (o : Stored) (n place level x : ℕ) → CanInsert sites o n → IsPlaceIn sites o n (key_of (site_at sites n) o.level) level place
     → at_of o.words place ≡ body_word x → HasBody o.words x × IsUnder (key_of (site_at sites n) level) (site_at sites x)
-body_in sites o n place level x h there body =
+body_there sites o n place level x h there body =
     let base : ℕ = key_of (site_at sites n) o.level in
     let key : ℕ = key_of (site_at sites n) level in
     (stands_now sites o n h).names_body key x
     (subst (λ (y : ℕ). IsWordOf (at_of o.words) (at_of o.words 0) base (HasCell o.words) key y) body (word_at_place (at_of o.words) 0 base (HasCell o.words) key place there))
 
--- where it names a body, that is another one of the cube
+-- where the word names a body, that is another one of the cube
 pub body_case : (sites : List Site) (o : Stored) (n place level key x : ℕ) → CanInsert sites o n → IsPlaceIn sites o n (key_of (site_at sites n) o.level) level place
     → at_of o.words place ≡ body_word x → level ≤ 21 → key ≡ key_of (site_at sites n) level → ArePair sites x n key level
 body_case sites o n place level key x h there body shallow is_key =
-    let f = body_in sites o n place level x h there body in
+    let f = body_there sites o n place level x h there body in
     let l : f.1.0 ≡ level = same_level (site_at sites x) (site_at sites n) f.1.0 level (sym f.1.2) in
     let x_in : x < length sites = h.canonical.bodies_in x f.0 in
     let differ : x ≢ n = λ e. h.fresh (subst (λ (y : ℕ). HasBody o.words y) e f.0) in
@@ -261,17 +237,19 @@ body_case sites o n place level key x h there body shallow is_key =
 
 -- and the cells that part the two take its place
 pub parted_case : (sites : List Site) (o : Stored) (next : List ℕ) (n place level x to v : ℕ) → CanInsert sites o n → IsPlaceIn sites o n (key_of (site_at sites n) o.level) level place
-    → place < length o.words → at_of o.words place ≡ body_word x
-    → length next ≡ 3 + 10 * to → ((i : ℕ) → i < 3 + 10 * o.used → at_of next i ≡ at_of o.words i) → AreUnlocked next to → o.used < to → to ≤ o.used + 21 → to ≤ o.held
+    → place < length o.words → at_of o.words place ≡ body_word x → IsAppended o next to
     → StandsFor (site_at sites) (at_of next) (cell_word o.used) (key_of (site_at sites n) level) (IsTaken o.used to) (IsOneOf x n) → v ≡ cell_word o.used
     → IsDone sites n o (with_words o (slice_set next place v) to)
-parted_case sites o next n place level x to v h there inside body len kept unlocked more few fits sub is =
-    done_body sites o next x n place level to v h.stored h.canonical h.n_in h.rule.few (there_now sites o n place level h there) inside body len kept unlocked more few fits sub is
-
--- a canonical octree of the whole cube has the canonical tree of any list of its bodies
-pub tree_is : (sites : List Site) (o : Stored) → IsStored o → IsCanonical sites o → o.base ≡ 1
-    → (bodies : List ℕ) → NoneTwice bodies → ((m : ℕ) → HasBody o.words m ↔ IsIn bodies m) → tree_of o ≡ octree (site_at sites) bodies
-tree_is sites o h canon one bodies apart same =
-    let stands : StandsWell sites o.words 1 = subst (λ (y : ℕ). StandsWell sites o.words y) one (stands_of sites o h canon) in
-    flat_gives_canonical (site_at sites) (at_of o.words) (HasCell o.words) bodies
-    (stands_same (site_at sites) (at_of o.words) (at_of o.words 0) 1 (HasCell o.words) (HasCell o.words) (HasBody o.words) (IsIn bodies) (λ c. ((λ q. q), (λ q. q))) same stands) apart
+parted_case sites o next n place level x to v h there inside body appended sub is =
+    let had = (body_there sites o n place level x h there body).0 in
+    done sites o next (IsTaken o.used to) (IsOneOf x n) n place level to v h (record {
+      there = there;
+      inside = inside;
+      appended = appended;
+      stands = subst (λ (y : ℕ). StandsFor (site_at sites) (at_of next) y (key_of (site_at sites n) level) (IsTaken o.used to) (IsOneOf x n)) (sym is) sub;
+      cells_new = λ c p. p;
+      no_cell = λ c e. omega (arith, body);
+      body_joins = λ m e. inl (omega (arith, body));
+      only = λ m b. elim b [ inl e ↦ inl (subst (λ (y : ℕ). HasBody o.words y) (sym e) had) | inr e ↦ inr e ];
+      joins = inr refl;
+    })

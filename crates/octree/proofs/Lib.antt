@@ -9,6 +9,7 @@ mod Counts
 pub mod Roomier
 mod WholeWords
 mod Builds
+mod Canonicals
 pub mod Reading
 pub mod Subtrees
 pub mod Laws

@@ -21,7 +21,7 @@ unlocked_in_cell words cells cell k i v h e small = unlocked_other words cells i
 -- the word of a cube
 pub unlocked_at_place : (words : List ℕ) (cells : ℕ) (at : ℕ → ℕ) (base : ℕ) (IsCell : ℕ → Type 0) (key place v : ℕ) → AreUnlocked words cells → IsPlaceOf at 0 base IsCell key place
     → AreUnlocked (slice_set words place v) cells
-unlocked_at_place words cells at base IsCell key place v h (TopPlace k e low) = unlocked_other words cells place v h (λ d. omega arith) (λ d. omega arith) (λ c d. omega arith)
+unlocked_at_place words cells at base IsCell key place v h (TopPlace k e) = unlocked_other words cells place v h (λ d. omega arith) (λ d. omega arith) (λ c d. omega arith)
 unlocked_at_place words cells at base IsCell key place v h (ChildPlace c j p l k e) = unlocked_in_cell words cells c j place v h e (omega arith)
 
 -- the words of cells past the end

@@ -4,6 +4,7 @@ use Rattle.std.proofs.Math.Nat.{pow-suc}
 use Rattle.std.proofs.lemmas.Bool.{cases_lt}
 use Rattle.octant_code.proofs.Keys.{pow8-mono}
 use Rattle.bh_model.proofs.Folds.{height-body, height-empty, height_falls, height_within}
+use Rattle.bh_model.proofs.MoreThan.{one_of_more}
 use Rattle.bh_model.proofs.Lists.{in_joined, joined_in}
 use Rattle.bh_model.proofs.Trees.{cell_of-same, order-body, order-cell, order-empty}
 use Rattle.bh_model.specs.Bodies.{IsIn}
@@ -23,7 +24,7 @@ abbrev pub spot_at : Stored → ℕ → Spot
 spot_at o word = record { octree = o; word = word }
 
 -- the root is a spot
-pub root_spot : (o : Stored) → IsStored o → IsSpot (spot_at o (root_word o))
+unfoldable pub root_spot : (o : Stored) → IsStored o → IsSpot (spot_at o (root_word o))
 root_spot o stored = record { stored = stored; key = o.base; level = o.level; read = HereAs o.base (root_word o) refl refl; shallow = stored.shallow; low = stored.base_low }
 
 -- the word of a spot is read
@@ -72,7 +73,7 @@ module _ (o : Stored) (w c : ℕ) (e : w ≡ cell_word c) (r : IsSpot (spot_at o
   }
 
 -- read deeper than there are levels left, a word has the same tree
-deep_enough : (o : Stored) (below w : ℕ) → WordIs w → (r : IsSpot (spot_at o w)) → 22 ≤ r.level + below → tree_from (at_of o.words) (suc below) w ≡ tree_from (at_of o.words) below w
+pub deep_enough : (o : Stored) (below w : ℕ) → WordIs w → (r : IsSpot (spot_at o w)) → 22 ≤ r.level + below → tree_from (at_of o.words) (suc below) w ≡ tree_from (at_of o.words) below w
 unfolding child_spot
 deep_enough o zero w is r deep = absurd (omega (arith, r.shallow))
 deep_enough o (suc below) w (NoBody e) r deep = rw e (tree-empty (at_of o.words) (suc below) ∙ sym (tree-empty (at_of o.words) below))
@@ -276,13 +277,13 @@ unfolding cell_at child_under tree_under
 cell_at_itself s c r e =
     let number : s.word / 2 - 1 ≡ c = omega arith in
     let o : Stored = s.octree in
-    let two = r.stored.sound.two_bodies r.key c (cell_read o s.word c e r) in
+    let one = one_of_more (r.stored.sound.more_bodies r.key c (cell_read o s.word c e r)) in
     record {
       same = refl;
       tree = cell_tree o s.word c e r ∙ ap (λ d. cell_of (λ k. tree_of_word o (at_of o.words (child_place d k)))) (sym number);
       kept = ap (tree_of_word o) e ∙ ap (λ d. tree_of_word o (cell_word d)) (sym number);
       reached = subst (λ (d : ℕ). HasCell o.words d) (sym number) (cell_reached o s.word c e r);
-      some = record { body = two.one; inside = (bodies_of_spot o s.word r two.one).1 (subst (λ (w : ℕ). IsReached (at_of o.words) w (body_word two.one)) (sym e) two.one_read) };
+      some = record { body = one.one; inside = (bodies_of_spot o s.word r one.one).1 (subst (λ (w : ℕ). IsReached (at_of o.words) w (body_word one.one)) (sym e) one.one_is) };
       parts = cell_parts s c r e;
     }
 

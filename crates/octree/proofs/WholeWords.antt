@@ -2,6 +2,7 @@
 use Rattle.std.proofs.Common.{ℕ, ◌+◌, ◌-◌, ◌*◌, ◌/◌, ◌<◌, ◌≤◌, ◌≡◌, ◌⊎◌, inl, inr, sym, ◌∙◌, ap, subst, arith, List, ◌++◌, length, length-append, replicate, take, refl}
 use Rattle.std.proofs.lemmas.Bool.{cases_lt}
 use Rattle.std.proofs.lemmas.List.{get_or-replicate, get_or-append_right, get_or_append_left, length-replicate, length-take-le, take_all, take_at, get_or-take}
+use Rattle.bh_model.proofs.MoreThan.{one_of_more}
 use Rattle.octant_code.proofs.Keys.{pow8-mono}
 use Rattle.octree.proofs.Locks.{unlocked_more}
 use Rattle.octree.proofs.Words.{at_longer, at_past}
@@ -13,7 +14,7 @@ use Rattle.tree_rule.specs.Sound.{IsSound}
 use Rattle.tree_rule.specs.Words.{Below, HasBody, HasCell, Here, IsReached, at_of, body_word, cell_word, child_place}
 
 -- the whole cube is of level 0
-whole_level : (o : Stored) → IsStored o → o.base ≡ 1 → o.level ≡ 0
+pub whole_level : (o : Stored) → IsStored o → o.base ≡ 1 → o.level ≡ 0
 whole_level o h one = elim (cases_lt o.level 1) [
   | inl l ↦ omega arith
   | inr l ↦ absurd (omega (arith, h.base_low, pow8-mono 1 o.level l))
@@ -86,8 +87,8 @@ cells_below words used h blank c r = elim (cases_lt c used) [
   | inl l ↦ l
   | inr past ↦
       let f = recall (at_of words) (at_of words 0) 1 (cell_word c) r in
-      let two = h.sound.two_bodies f.key c f.read in
-      absurd (elim (unused_bare words used c blank past (body_word two.one) two.one_read) [ inl e ↦ omega arith | inr e ↦ omega arith ])
+      let one = one_of_more (h.sound.more_bodies f.key c f.read) in
+      absurd (elim (unused_bare words used c blank past (body_word one.one) one.one_is) [ inl e ↦ omega arith | inr e ↦ omega arith ])
 ]
 
 -- the words of the used cells alone are an octree's

@@ -48,14 +48,15 @@ impl Model for Octree {
 }
 
 impl Octree {
-    ghost use Rattle.std.specs.Prelude.{◌≡◌, ◌+◌, ◌*◌, ◌<◌, ◌≤◌, ◌↔◌, ℕ, List, IfOk, OnOk, OnErr, length};
+    ghost use Rattle.std.specs.Prelude.{◌≡◌, ◌+◌, ◌-◌, ◌*◌, ◌<◌, ◌≤◌, ◌↔◌, ℕ, List, [], IfOk, OnOk, OnErr, length};
     ghost use Rattle.octant_code.specs.Space.{Site, IsUnder};
     ghost use Rattle.octant_code.specs.Points.{site_at};
     ghost use Rattle.bh_model.specs.Bodies.{IsIn, NoneTwice, numbers};
-    ghost use Rattle.bh_model.specs.Trees.{cell_count, depth, octree, order, text};
+    ghost use Rattle.bh_model.specs.Trees.{cell_count, depth, octree_from, order, text};
     ghost use Rattle.bh_outside.specs.Outside.{HasCause, Writes};
     ghost use Rattle.bh_outside.specs.Text.{Puts};
     ghost use Rattle.tree_rule.specs.Words.{at_of, child_place, HasBody, HasCell};
+    ghost use Rattle.tree_rule.specs.Standing.{WordsNameExactly};
     ghost use Rattle.octree.specs.Node.{IsNodeOf};
     ghost use Rattle.octree.specs.Stored.{AreOctreeWords, IsBlankFrom, IsCanonical, IsInserted, IsRoomier, IsStored, all_used, all_words, cells_of, full_tree, root_word, spare_of, tree_of, tree_with_used, word_count};
     ghost use Rattle.octree.specs.Reading.{IsOctreeOf};
@@ -255,12 +256,21 @@ impl Octree {
         Ok(())
     }
 
-    /// A tree of the whole cube that is canonical at points is the canonical octree of any list of its
-    /// bodies.
+    /// A tree that is canonical at points is the canonical octree of any list of its bodies: of those
+    /// of its cube, from the level of its cube on.
     pub fn canonical_tree(&self, points: &Points)
-        requires base { self.now.base ≡ 1 }
         requires canonical { IsCanonical points.now self.now }
-        ensures { (bodies : List ℕ) → NoneTwice bodies → ((m : ℕ) → HasBody self.now.words m ↔ IsIn bodies m) → tree_of self.now ≡ octree (site_at points.now) bodies }
+        ensures rule { IsStored self.now }
+        ensures tree { (bodies : List ℕ) → NoneTwice bodies → ((m : ℕ) → IsIn (order (tree_of self.now)) m ↔ IsIn bodies m) → tree_of self.now ≡ octree_from (site_at points.now) (LEVELS - self.now.level) self.now.level bodies }
+    {
+        let _read = (self.held, points.len());
+    }
+
+    /// The words of a tree that is canonical at points name exactly the cells that can be reached and
+    /// the bodies of its order, each in its cube.
+    pub fn names_exactly(&self, points: &Points)
+        requires canonical { IsCanonical points.now self.now }
+        ensures { WordsNameExactly points.now self.now.words 0 self.now.base (cells_of self.now) [] (order (tree_of self.now)) }
     {
         let _read = (self.held, points.len());
     }

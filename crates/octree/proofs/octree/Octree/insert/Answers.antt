@@ -50,8 +50,8 @@ some_done c =
     let key : c.key_at.result ≡ key_of (site_at c.args.points.now c.args.n) end.result.level = c.key_at.ensures ∙ ap (λ s. key_of s end.result.level) c.at.ensures.value in
     subst (λ (o : Stored). IsDone c.args.points.now c.args.n o (with_words (here d.After-find_place-end) after part.result)) c.self.view_is
     (parted_case c.args.points.now (here d.After-find_place-end) part.new.words.items c.args.n end.result.place end.result.level c.in-Some.x part.result c.word_of_cell.result
-    (can d.After-find_place-end) end.ensures.there end.ensures.inside (body_end d.In-Some) part.ensures.len part.ensures.kept part.ensures.unlocked part.ensures.more
-    (omega (arith, part.ensures.few)) (omega (arith, part.ensures.few, room))
+    (can d.After-find_place-end) end.ensures.there end.ensures.inside (body_end d.In-Some)
+    (record { len = part.ensures.len; kept = part.ensures.kept; unlocked = part.ensures.unlocked; more = omega (arith, part.ensures.more); few = omega (arith, part.ensures.few); fits = omega (arith, part.ensures.few, room) })
     (subst (λ (y : ℕ). StandsFor (site_at c.args.points.now) (at_of part.new.words.items) (cell_word c.self.inside.used) y (IsTaken c.self.inside.used part.result) (IsOneOf c.in-Some.x c.args.n)) key part.ensures.stands)
     c.word_of_cell.ensures)
 

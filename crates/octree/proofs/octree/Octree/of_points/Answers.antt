@@ -1,8 +1,6 @@
 use Rattle.std.proofs.Common.{◌≡◌, ◌<◌, length, arith}
 use Rattle.octant_code.specs.Points.{site_at}
-use Rattle.bh_model.proofs.Lists.{numbers_once}
-use Rattle.bh_model.specs.Bodies.{numbers}
-use Rattle.octree.proofs.Builds.{built_all, built_more, built_none, built_roomier, under_whole}
+use Rattle.octree.proofs.Builds.{built_more, built_none, built_roomier, built_tree, under_whole}
 use Rattle.octree.proofs.octree.Octree.of_points.Goals as goal
 
 pub loop-n-init : goal.loop-n-init
@@ -29,10 +27,8 @@ loop-n-preserved c =
 
 pub returns : goal.returns
 returns c =
-    let sites = c.args.points.now in
-    let all : c.loop-n.n ≡ length sites = omega arith in
     record {
       base = c.loop-n.invariant.base;
       canonical = c.loop-n.invariant.canonical;
-      tree = c.canonical_tree.ensures (numbers (length sites)) (numbers_once (length sites)) (built_all sites c.loop-n.tree c.loop-n.n c.loop-n.invariant all);
+      tree = built_tree c.args.points.now c.loop-n.tree c.loop-n.n c.canonical_tree.ensures.rule c.loop-n.invariant (omega arith) c.canonical_tree.ensures.tree;
     }
