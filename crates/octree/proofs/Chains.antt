@@ -1,5 +1,5 @@
 -- The steps of building the cells that part two bodies.
-use Rattle.std.proofs.Common.{ℕ, ◌+◌, ◌*◌, ◌<◌, ◌≤◌, ◌≡◌, ◌≢◌, ◌⊎◌, suc, refl, sym, ◌∙◌, ap, subst, inl, inr, arith, List, length, slice_set, add-one}
+use Rattle.std.proofs.Common.{ℕ, ◌+◌, ◌*◌, ◌<◌, ◌≤◌, ◌≡◌, ◌≢◌, ◌⊎◌, suc, sym, ◌∙◌, ap, subst, inl, inr, arith, List, length, slice_set, add-one}
 use Rattle.std.proofs.lemmas.Bool.{cases_lt}
 use Rattle.octant_code.specs.Space.{IsInCube, Site, key_of, octant_of}
 use Rattle.octant_code.specs.Points.{site_at, ArePoints}
@@ -12,7 +12,8 @@ use Rattle.octree.specs.Stored.{IsBlankFrom}
 use Rattle.tree_rule.proofs.Chain.{fork_stands, link_stands}
 use Rattle.tree_rule.proofs.Parts.{Only}
 use Rattle.tree_rule.proofs.Walk.{stands_moved, stands_same}
-use Rattle.tree_rule.specs.Flat.{IsShared, StandsFor}
+use Rattle.tree_rule.proofs.Shared.{pair_shares}
+use Rattle.tree_rule.specs.Flat.{StandsFor}
 use Rattle.tree_rule.specs.Words.{at_of, body_word, cell_word, child_place, key_place}
 
 -- two numbers of a list of points have different sites
@@ -54,20 +55,6 @@ level_shallow sites x n level h a b p q d l k =
           absurd (sites_differ sites x n h p q d (same_site (site_at sites x) (site_at sites n) a b both))
     ]
 
--- the cube of a pair is shared by both
-pub pair_shares : (site : ℕ → Site) (x n level : ℕ) → level ≤ 20 → x ≢ n → key_of (site x) level ≡ key_of (site n) level → IsShared site (IsOneOf x n) (key_of (site n) level)
-pair_shares site x n level l d k = record {
-  level = level;
-  shallow = l;
-  one = x;
-  other = n;
-  one_in = inl refl;
-  other_in = inr refl;
-  differ = d;
-  one_under = sym k;
-  other_under = refl;
-}
-
 -- the cell over a chain
 pub linked : (site : ℕ → Site) (words after : List ℕ) (used to a key level x n value : ℕ)
     → length after ≡ length (slice_set words (3 + 10 * used + 8) key)
@@ -102,7 +89,7 @@ linked site words after used to a key level x n value len kept blank room more s
       (λ q. elim (same_or_not c used) [ inl e ↦ inl e | inr o ↦ inr (omega (arith, q.0), q.1) ]),
     ))
     (λ m. ((λ q. q), (λ q. q)))
-    (link_stands site (at_of last) used (key_of (site n) level) a (IsTaken (used + 1) to) (IsOneOf x n) key_now (pair_shares site x n level shallow d k) small part others)
+    (link_stands site (at_of last) used (key_of (site n) level) a (IsTaken (used + 1) to) (IsOneOf x n) key_now (pair_shares site x n level (omega arith) d k) small part others)
 
 -- the cell in which two bodies lie in different octants
 pub forked : (site : ℕ → Site) (words : List ℕ) (used a b key level x n v w : ℕ)
@@ -136,5 +123,5 @@ forked site words used a b key level x n v w blank room shallow d k is_key is_a 
     stands_same site (at_of last) (cell_word used) (key_of (site n) level) (Only used) (IsTaken used (used + 1)) (IsOneOf x n) (IsOneOf x n)
     (λ c. ((λ e. (omega arith, omega arith)), (λ q. omega (arith, q.0, q.1))))
     (λ m. ((λ q. q), (λ q. q)))
-    (fork_stands site (at_of last) used (key_of (site n) level) a b x n key_now (pair_shares site x n level shallow d k) sa sb apart
+    (fork_stands site (at_of last) used (key_of (site n) level) a b x n key_now (pair_shares site x n level (omega arith) d k) sa sb apart
     (suc level, omega arith, ux) (suc level, omega arith, un) a_now b_now others)

@@ -6,6 +6,7 @@ use Rattle.octant_code.specs.Points.{site_at}
 use Rattle.octant_code.proofs.Keys.{key-suc, octant-small, same_level}
 use Rattle.octree.specs.Stored.{StandsWell}
 use Rattle.tree_rule.proofs.Graft.{word_at_place}
+use Rattle.tree_rule.proofs.Shared.{sharer}
 use Rattle.tree_rule.specs.Flat.{ChildPlace, IsPlaceOf, IsWordOf, TopPlace}
 use Rattle.tree_rule.specs.Words.{Below, HasCell, Here, IsReached, at_of, cell_word, key_place}
 
@@ -17,7 +18,7 @@ pub record StepsDown (words : List ℕ) (base : ℕ) (s : Site) (place level c :
 
 -- a word at a place is read
 pub place_read : (words : List ℕ) (base key place : ℕ) → IsPlaceOf (at_of words) 0 base (HasCell words) key place → IsReached (at_of words) (at_of words 0) (at_of words place)
-place_read words base key place (TopPlace k e low) = Here (at_of words place) (ap (at_of words) e)
+place_read words base key place (TopPlace k e) = Here (at_of words place) (ap (at_of words) e)
 place_read words base key place (ChildPlace c j p l k e) = Below c j (at_of words place) p l (ap (at_of words) e)
 
 -- where the way down has come to
@@ -38,7 +39,7 @@ stepped sites words n from place level w c h way read shape =
     let x : IsWordOf (at_of words) (at_of words 0) base (HasCell words) (key_of s level) (cell_word c) =
     subst (λ (y : ℕ). IsWordOf (at_of words) (at_of words 0) base (HasCell words) (key_of s level) y) is_cell (word_at_place (at_of words) 0 base (HasCell words) (key_of s level) place way.there) in
     let f = h.names_cell (key_of s level) c x in
-    let t = h.shared c f.0 in
+    let t = sharer (h.shared c f.0) in
     let l : t.level ≡ level = same_level (site_at sites t.one) s t.level level (sym t.one_under ∙ f.1) in
     let next_key : key_of s (level + 1) ≡ 8 * at_of words (key_place c) + octant_of s level =
     ap (key_of s) (add-one level) ∙ key-suc s level ∙ ap (λ y. 8 * y + octant_of s level) (sym f.1) in

@@ -45,7 +45,6 @@ insert_empty sites words base key place n v h there inside empty under is =
     grafted sites words words (slice_set words place v) base Nothing (Only n) key place (body_word n) (record {
       before = h;
       below = stands_body (site_at sites) (at_of (slice_set words place v)) key n (Only n) under;
-      low = omega arith;
       there = there;
       no_cell = λ c e. omega (arith, empty);
       body_joins = λ m e. absurd (omega (arith, empty));
@@ -54,13 +53,13 @@ insert_empty sites words base key place n v h there inside empty under is =
 
 -- a place of a word lies below those of cells that are not used
 pub place_used : (words : List ℕ) (base key place used : ℕ) → ((c : ℕ) → HasCell words c → c < used) → IsPlaceOf (at_of words) 0 base (HasCell words) key place → place < 3 + 10 * used
-place_used words base key place used few (TopPlace k e low) = omega arith
+place_used words base key place used few (TopPlace k e) = omega arith
 place_used words base key place used few (ChildPlace c j p l k e) = omega (arith, few c p)
 
 -- a place of a word stays one where the words of used cells stay
 place_moved : (words next : List ℕ) (base key place used : ℕ) → ((c : ℕ) → HasCell words c → c < used) → ((i : ℕ) → i < 3 + 10 * used → at_of next i ≡ at_of words i)
     → IsPlaceOf (at_of words) 0 base (HasCell words) key place → IsPlaceOf (at_of next) 0 base (HasCell words) key place
-place_moved words next base key place used few kept (TopPlace k e low) = TopPlace k e low
+place_moved words next base key place used few kept (TopPlace k e) = TopPlace k e
 place_moved words next base key place used few kept (ChildPlace c j p l k e) =
     ChildPlace c j p l (k ∙ ap (λ y. 8 * y + j) (sym (kept (key_place c) (omega (arith, few c p))))) e
 
@@ -82,7 +81,6 @@ insert_body sites words next base key place used to x n v h few kept there insid
       before = subst (λ (y : ℕ). StandsFor site (at_of next) y base (HasCell words) (HasBody words)) (sym (kept 0 (omega arith))) moved;
       below = stands_moved site (at_of next) (at_of (slice_set next place v)) (cell_word used) key (IsTaken used to) (IsOneOf x n)
           (λ c p. other (key_place c) (λ e. omega (arith, p.0))) (λ c j p l. other (child_place c j) (λ e. omega (arith, p.0))) sub;
-      low = omega arith;
       there = place_moved words next base key place used few kept there;
       no_cell = λ c e. omega (arith, same);
       body_joins = λ m e. inl (omega (arith, same));
@@ -162,7 +160,7 @@ done_empty sites o n place level v h canon n_in size there inside shallow empty 
       inserted = record {
         bodies = g.bodies;
         cells_stay = λ c p. (g.cells c).1 (inl p);
-        keys_stay = λ c p. at_set_other o.words place (key_place c) v (key_apart (at_of o.words) 0 o.base (HasCell o.words) key place c there);
+        keys_stay = λ c p. at_set_other o.words place (key_place c) v (key_apart (at_of o.words) 0 o.base (HasCell o.words) key place c (omega arith) there);
         base_stays = refl;
         held_stays = refl;
         used_more = omega arith;
@@ -208,7 +206,7 @@ done_body sites o next x n place level to v h canon n_in size there inside body 
       inserted = record {
         bodies = λ m. ((λ b. split m ((g.bodies m).0 b)), (λ b. (g.bodies m).1 (elim b [ inl q ↦ inl q | inr e ↦ inr (inr e) ])));
         cells_stay = λ c p. (g.cells c).1 (inl p);
-        keys_stay = λ c p. at_set_other next place (key_place c) v (key_apart (at_of o.words) 0 o.base (HasCell o.words) key place c there) ∙ kept (key_place c) (omega (arith, h.cells_used c p));
+        keys_stay = λ c p. at_set_other next place (key_place c) v (key_apart (at_of o.words) 0 o.base (HasCell o.words) key place c (omega arith) there) ∙ kept (key_place c) (omega (arith, h.cells_used c p));
         base_stays = refl;
         held_stays = refl;
         used_more = omega arith;

@@ -19,6 +19,6 @@ unlocked_in_cell words cell k v h small = unlocked_other words (3 + 10 * cell + 
 -- the word of a cube
 pub unlocked_at_place : (words : List ℕ) (at : ℕ → ℕ) (base : ℕ) (IsCell : ℕ → Type 0) (key place v : ℕ) → AreUnlocked words → IsPlaceOf at 0 base IsCell key place
     → AreUnlocked (slice_set words place v)
-unlocked_at_place words at base IsCell key place v h (TopPlace k e low) = unlocked_other words place v h (λ d. omega arith) (λ d. omega arith) (λ c d. omega arith)
+unlocked_at_place words at base IsCell key place v h (TopPlace k e) = unlocked_other words place v h (λ d. omega arith) (λ d. omega arith) (λ c d. omega arith)
 unlocked_at_place words at base IsCell key place v h (ChildPlace c j p l k e) =
     unlocked_other words place v h (λ d. omega arith) (λ d. omega arith) (λ other d. omega arith)

@@ -45,7 +45,7 @@ sound_blank at top base e =
       keys_follow = λ key c r. absurd (omega (arith, none key (cell_word c) r));
       shallow = λ key c r. absurd (omega (arith, none key (cell_word c) r));
       bodies_once = λ key key' n r q. absurd (omega (arith, none key (body_word n) r));
-      two_bodies = λ key c r. absurd (omega (arith, none key (cell_word c) r));
+      more_bodies = λ key c r. absurd (omega (arith, none key (cell_word c) r));
     }
 
 -- words of zeros are an empty octree

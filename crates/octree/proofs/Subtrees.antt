@@ -9,6 +9,7 @@ use Rattle.bh_model.proofs.Trees.{cell_of-same, order-body, order-cell, order-em
 use Rattle.bh_model.specs.Bodies.{IsIn}
 use Rattle.octree.proofs.Texts.{tree-zero}
 use Rattle.bh_model.specs.Trees.{Tree, cell_of, height, order}
+use Rattle.bh_model.proofs.MoreThan.{one_of_more}
 use Rattle.tree_rule.proofs.Canonical.{ACell, NoBody, OneBody, WordIs, tree-body, tree-cell, tree-empty, word_is}
 use Rattle.tree_rule.proofs.Count.{Deeper, IsKeyBelow, Same, child_in_child, comparable}
 use Rattle.tree_rule.proofs.Sound.{forget}
@@ -262,14 +263,14 @@ top_cell s c r e =
     let number : cell_word c / 2 - 1 ≡ c = omega arith in
     let o : Stored = s.octree in
     let r' : IsSpot (cell_spot o c) = subst (λ (w : ℕ). IsSpot (record { octree = s.octree; word = w })) e r in
-    let two = r.stored.sound.two_bodies r.key c r'.read in
+    let some = one_of_more (r.stored.sound.more_bodies r.key c r'.read) in
     let same : cell_spot o c ≡ s = ap (λ (w : ℕ). record { octree = s.octree; word = w }) (sym e) in
     record {
       same = same;
       tree = ap (tree_of_word o) e ∙ cell_tree o c r' ∙ ap (λ d. cell_of (λ k. tree_of_word o (at_of o.words (child_place d k)))) (sym number);
       kept = ap (tree_of_word o) e ∙ ap (λ d. tree_of_word o (cell_word d)) (sym number);
       reached = subst (λ (d : ℕ). HasCell o.words d) (sym number) (cell_reached o c r');
-      some = record { body = two.one; inside = spot_order s two.one r (subst (λ (w : ℕ). IsReached (at_of o.words) w (body_word two.one)) (sym e) two.one_read) };
+      some = record { body = some.one; inside = spot_order s some.one r (subst (λ (w : ℕ). IsReached (at_of o.words) w (body_word some.one)) (sym e) some.one_is) };
       parts = subst (λ (x : Spot). HasParts x (cell_spot o c)) same (cell_parts o c r');
     }
 
