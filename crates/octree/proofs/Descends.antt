@@ -7,6 +7,7 @@ use Rattle.octant_code.proofs.Keys.{key-suc, octant-small, same_level}
 use Rattle.octree.specs.Stored.{StandsWell}
 use Rattle.tree_rule.proofs.Shared.{sharer}
 use Rattle.tree_rule.proofs.Graft.{word_at_place}
+use Rattle.tree_rule.proofs.Shared.{sharer}
 use Rattle.tree_rule.specs.Flat.{ChildPlace, IsPlaceOf, IsWordOf, TopPlace}
 use Rattle.tree_rule.specs.Words.{Below, HasCell, Here, IsReached, at_of, cell_word, key_place}
 

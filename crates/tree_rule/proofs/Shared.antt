@@ -1,5 +1,6 @@
 -- Cubes that more bodies share than a leaf holds: one of the bodies, and two of them where a leaf holds one.
-use Rattle.std.proofs.Common.{ℕ, ◌≤◌, ◌≡◌, ◌≢◌, ◌⊎◌, refl, sym, inl, inr}
+use Rattle.std.proofs.Common.{ℕ, ◌<◌, ◌≡◌, ◌≢◌, ◌⊎◌, refl, sym, inl, inr}
+use Rattle.octant_code.specs.declared.limits.TheConstants.{LEVELS}
 use Rattle.octant_code.specs.Space.{Site, key_of}
 use Rattle.bh_model.proofs.MoreThan.{more_of_two, more_so, one_of_more, two_of_more}
 use Rattle.tree_rule.specs.Flat.{IsShared}
@@ -7,7 +8,7 @@ use Rattle.tree_rule.specs.Flat.{IsShared}
 -- a body that shares a cube, which is of a cell's level
 pub record HasSharer (site : ℕ → Site) (IsBody : ℕ → Type 0) (key : ℕ) : Type 0 where
   pub level : ℕ
-  pub shallow : level ≤ 20
+  pub shallow : level < LEVELS
   pub one : ℕ
   pub one_in : IsBody one
   pub one_under : key ≡ key_of (site one) level
@@ -15,7 +16,7 @@ pub record HasSharer (site : ℕ → Site) (IsBody : ℕ → Type 0) (key : ℕ)
 -- two bodies that share a cube, which is of a cell's level
 pub record HasTwoSharers (site : ℕ → Site) (IsBody : ℕ → Type 0) (key : ℕ) : Type 0 where
   pub level : ℕ
-  pub shallow : level ≤ 20
+  pub shallow : level < LEVELS
   pub one : ℕ
   pub other : ℕ
   pub one_in : IsBody one
@@ -55,5 +56,5 @@ abbrev pub Pair : ℕ → ℕ → ℕ → Type 0
 Pair x n m = (m ≡ x) ⊎ (m ≡ n)
 
 -- the cube of a pair is shared by both
-pub pair_shares : (site : ℕ → Site) (x n level : ℕ) → level ≤ 20 → x ≢ n → key_of (site x) level ≡ key_of (site n) level → IsShared site (Pair x n) (key_of (site n) level)
+pub pair_shares : (site : ℕ → Site) (x n level : ℕ) → level < LEVELS → x ≢ n → key_of (site x) level ≡ key_of (site n) level → IsShared site (Pair x n) (key_of (site n) level)
 pair_shares site x n level l d k = record { level = level; shallow = l; sharers = more_of_two x n (inl refl, sym k) (inr refl, refl) d }

@@ -1,6 +1,7 @@
 -- The rule with no points, and the flat facts at points, say the same where each body's point lies in the cube of its word.
 use Rattle.std.proofs.Common.{ℕ, ◌+◌, ◌*◌, ◌^◌, ◌<◌, ◌≤◌, ◌≡◌, refl, sym, ◌∙◌, ap, subst, inl, inr, arith}
 use Rattle.std.proofs.lemmas.Bool.{cases_lt}
+use Rattle.octant_code.specs.declared.limits.TheConstants.{LEVELS}
 use Rattle.octant_code.specs.Space.{Site, key_of, IsUnder}
 use Rattle.octant_code.proofs.Keys.{key-low, key-high, pow8-mono, same_level, same_parent, same_child}
 use Rattle.tree_rule.proofs.Flat.{below_top, cell_above, one_word}
@@ -86,7 +87,7 @@ read_below at top base key v _ pos r (Below c k w q l e) =
     }
 
 -- the level of a key that is below 2 ^ 61 is one of those of cells
-level_small : (s : Site) (key level : ℕ) → key < 2 ^ 61 → key ≡ key_of s level → level ≤ 20
+level_small : (s : Site) (key level : ℕ) → key < 2 ^ 61 → key ≡ key_of s level → level < LEVELS
 level_small s key level h e = elim (cases_lt level 21) [
   | inl l ↦ omega arith
   | inr l ↦ absurd (omega (arith, key-low s level, pow8-mono 21 level l))
@@ -172,7 +173,7 @@ sound_of_stands site at top base P B h = record {
   shallow = λ key c r.
       let f = h.names_cell key c (named_of_read site at top base P B h key (cell_word c) r) in
       let t = sharer (h.shared c f.0) in
-      omega (arith, f.1, t.one_under, key-high (site t.one) t.level, pow8-mono t.level 20 t.shallow);
+      omega (arith, f.1, t.one_under, key-high (site t.one) t.level, pow8-mono t.level 20 (omega (arith, t.shallow)));
   bodies_once = λ key key' n r q.
       let x = named_of_read site at top base P B h key (body_word n) r in
       let y = named_of_read site at top base P B h key' (body_word n) q in

@@ -195,7 +195,7 @@ child_key key k l s = (suc l.0, omega (arith, l.1), omega (arith, l.2, pow-suc 8
 
 -- a cell's key is below 2 ^ 61
 pub cell_key_small : (key : ℕ) → IsCellKey key → key < 2 ^ 61
-cell_key_small key l = omega (arith, l.3, pow8-mono l.0 20 l.1)
+cell_key_small key l = omega (arith, l.3, pow8-mono l.0 20 (omega (arith, l.1)))
 
 -- a cell's key is that of a cube
 pub cell_key_is_key : (key : ℕ) → IsCellKey key → IsKey key

@@ -1,5 +1,6 @@
 -- What it is for words to stand for a set of bodies, in flat facts on single words.
 use Rattle.std.specs.Prelude.{ℕ, ◌+◌, ◌*◌, ◌<◌, ◌≤◌, ◌≡◌, ◌≢◌, ◌⊎◌, List}
+use Rattle.octant_code.specs.declared.limits.TheConstants.{LEVELS}
 use Rattle.octant_code.specs.Space.{Site, key_of, IsUnder}
 use Rattle.octant_code.specs.Points.{site_at}
 use Rattle.bh_model.specs.Bodies.{HasMoreThan, IsIn, leaf_size}
@@ -21,13 +22,13 @@ IsBodyAt at top base IsCell key n = IsWordOf at top base IsCell key (body_word n
 -- More bodies of the set lie in the cube of a key than a leaf holds, and the key is of one of the levels that cells have.
 pub record IsShared (site : ℕ → Site) (IsBody : ℕ → Type 0) (key : ℕ) : Type 0 where
   pub level : ℕ
-  pub shallow : level ≤ 20
+  pub shallow : level < LEVELS
   pub sharers : HasMoreThan leaf_size (λ n. IsBody n × (key ≡ key_of (site n) level))
 
 -- Body `n` is named by the word of a cube that its point lies in.
 pub record IsNamed (site : ℕ → Site) (at : ℕ → ℕ) (top base : ℕ) (IsCell : ℕ → Type 0) (n : ℕ) : Type 0 where
   pub level : ℕ
-  pub shallow : level ≤ 21
+  pub shallow : level ≤ LEVELS
   pub named : IsBodyAt at top base IsCell (key_of (site n) level) n
 
 -- The words below the top word name a set of bodies with a set of cells, and below each cell lie more bodies of a set of

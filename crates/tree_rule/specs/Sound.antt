@@ -1,5 +1,6 @@
 -- The rule that octree words keep by themselves, with no points.
-use Rattle.std.specs.Prelude.{ℕ, ◌+◌, ◌*◌, ◌^◌, ◌<◌, ◌≡◌}
+use Rattle.std.specs.Prelude.{ℕ, ◌+◌, ◌-◌, ◌*◌, ◌^◌, ◌<◌, ◌≡◌}
+use Rattle.octant_code.specs.declared.limits.TheConstants.{LEVELS}
 use Rattle.octant_code.specs.Space.{Site, IsUnder}
 use Rattle.bh_model.specs.Bodies.{HasMoreThan, leaf_size}
 use Rattle.tree_rule.specs.Words.{child_place, key_place, body_word, cell_word, IsReached}
@@ -17,7 +18,7 @@ HasMoreBodies at top = HasMoreThan leaf_size (λ n. IsReached at top (body_word 
 -- each body is read in one cube alone, and more bodies are read below each cell than a leaf holds.
 pub record IsSound (at : ℕ → ℕ) (top base : ℕ) : Type 0 where
   pub keys_follow : (key c : ℕ) → IsReachedAs at top base key (cell_word c) → at (key_place c) ≡ key
-  pub shallow : (key c : ℕ) → IsReachedAs at top base key (cell_word c) → key < 2 ^ 61
+  pub shallow : (key c : ℕ) → IsReachedAs at top base key (cell_word c) → key < 2 * 8 ^ (LEVELS - 1)
   pub bodies_once : (key key' n : ℕ) → IsReachedAs at top base key (body_word n) → IsReachedAs at top base key' (body_word n) → key ≡ key'
   pub more_bodies : (key c : ℕ) → IsReachedAs at top base key (cell_word c) → HasMoreBodies at (cell_word c)
 

@@ -2,6 +2,7 @@
 -- named by exactly one of them. It is said from a root word on, with the key of its cube. The whole tree's stands at place 0 and has key 1. A
 -- part, which a word is to publish, is said of the words as they are once that word is written, and has that word as its root.
 use Rattle.std.specs.Prelude.{ℕ, ◌*◌, ◌^◌, ◌<◌, ◌≤◌, ◌≡◌, List, ◌++◌}
+use Rattle.octant_code.specs.declared.limits.TheConstants.{LEVELS}
 use Rattle.octant_code.specs.Space.{Site, IsUnder}
 use Rattle.octant_code.specs.Points.{site_at}
 use Rattle.bh_model.specs.Bodies.{IsIn, NoneTwice, HasMoreUnder}
@@ -22,7 +23,7 @@ pub record IsNamedOnce (at : ℕ → ℕ) (root base : ℕ) (cells : List ℕ) (
 
 -- a key is that of a cube of one of the levels that cells have, 0 to 20
 abbrev pub IsCellKey : ℕ → Type 0
-IsCellKey key = (level : ℕ) × (level ≤ 20) × (8 ^ level ≤ key) × (key < 2 * 8 ^ level)
+IsCellKey key = (level : ℕ) × (level < LEVELS) × (8 ^ level ≤ key) × (key < 2 * 8 ^ level)
 
 -- The published words name exactly the cells and the bodies of two lists, each in its cube. The list `others` has the cell numbers that are
 -- told elsewhere: private ones, those of regions, and those that are not given out.

@@ -10,7 +10,7 @@ ghost use Rattle.tree_rule.specs.Standing.{IsCellKey, WordsNameExactly};
 ghost use Rattle.tree_rule.specs.Tested.{ChildrenNameRightly, HasOtherUnder, HasOwnKey, IsChildWord, IsNamedSomewhere, IsRightCell, NamesBodyUnder, NamesCellOf, NamesRightly};
 
 use crate::words::{place_of_child, place_of_key, word_of_body, word_of_cell};
-use octant_code::{Points, key_has};
+use octant_code::{LEVELS, Points, key_has};
 
 // Whether a number stands in a list.
 fn is_in(list: &[u32], n: u32) -> bool
@@ -67,7 +67,7 @@ fn is_cell_key(key: u64) -> bool
     ensures { IsTrue result ↔ IsCellKey key }
 {
     let mut low: u64 = 1;
-    for i in 0..21u32 {
+    for i in 0..LEVELS {
         if key < low {
             return false;
         }

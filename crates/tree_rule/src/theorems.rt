@@ -2,7 +2,8 @@
 //! stands at a place and has a key: of a whole tree at place 0 with key 1, and of a part at the
 //! place of the word that publishes it.
 
-ghost use Rattle.std.specs.Prelude.{◌≡◌, ◌≢◌, ◌<◌, ◌≤◌, ◌↔◌, [], ◌++◌, ◌∷◌, ℕ, length, slice_index, slice_set};
+ghost use Rattle.std.specs.Prelude.{◌≡◌, ◌≢◌, ◌<◌, ◌≤◌, ◌↔◌, ◌+◌, [], ◌++◌, ◌∷◌, ℕ, length, slice_index, slice_set};
+ghost use Rattle.octant_code.specs.declared.limits.TheConstants.{LEVELS};
 ghost use Rattle.octant_code.specs.Space.{IsUnder};
 ghost use Rattle.octant_code.specs.Points.{site_at};
 ghost use Rattle.bh_model.specs.Bodies.{IsIn, NoneTwice};
@@ -19,7 +20,7 @@ use octant_code::Points;
 pub fn flat_gives_canonical(points: &Points, words: &[u64], cells: &[u32], bodies: &[u32])
     requires stands { WordsStandFor points.now words.now 0 1 cells.now bodies.now }
     requires distinct { NoneTwice bodies.now }
-    ensures { tree_from (at_of words.now) 22 (at_of words.now 0) ≡ octree (site_at points.now) bodies.now }
+    ensures { tree_from (at_of words.now) (LEVELS + 1) (at_of words.now 0) ≡ octree (site_at points.now) bodies.now }
 {
     let _read = (points.len(), words.len(), cells.len(), bodies.len());
 }
@@ -28,7 +29,7 @@ pub fn flat_gives_canonical(points: &Points, words: &[u64], cells: &[u32], bodie
 /// tree order of the words' own tree.
 pub fn flat_gives_own_order(points: &Points, words: &[u64], cells: &[u32], bodies: &[u32])
     requires { WordsStandFor points.now words.now 0 1 cells.now bodies.now }
-    ensures { let tree = tree_from (at_of words.now) 22 (at_of words.now 0) in tree ≡ octree (site_at points.now) (order tree) }
+    ensures { let tree = tree_from (at_of words.now) (LEVELS + 1) (at_of words.now 0) in tree ≡ octree (site_at points.now) (order tree) }
 {
     let _read = (points.len(), words.len(), cells.len(), bodies.len());
 }
@@ -61,7 +62,7 @@ pub fn cells_are_those_read(
 )
     requires base { 1 ≤ base }
     requires stands { WordsStandFor points.now words.now root base cells.now bodies.now }
-    ensures { (c : ℕ) → IsIn cells.now c ↔ IsIn (cells_from (at_of words.now) 22 (at_of words.now root)) c }
+    ensures { (c : ℕ) → IsIn cells.now c ↔ IsIn (cells_from (at_of words.now) (LEVELS + 1) (at_of words.now root)) c }
 {
     let _read = (points.len(), words.len(), cells.len(), bodies.len());
     let _other = root;
@@ -82,7 +83,7 @@ pub fn words_name_what_is_read(
     requires stands { WordsStandFor points.now words.now root base cells.now bodies.now }
     requires once { NoneTwice others.now }
     requires apart { (c : ℕ) → IsIn cells.now c → IsIn others.now c → ⊥ }
-    ensures { let top = at_of words.now root in WordsNameExactly points.now words.now root base (cells_from (at_of words.now) 22 top) others.now (order (tree_from (at_of words.now) 22 top)) }
+    ensures { let top = at_of words.now root in WordsNameExactly points.now words.now root base (cells_from (at_of words.now) (LEVELS + 1) top) others.now (order (tree_from (at_of words.now) (LEVELS + 1) top)) }
 {
     let _read = (points.len(), words.len(), cells.len(), bodies.len());
     let _other = (others.len(), root);

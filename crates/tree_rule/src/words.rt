@@ -4,11 +4,13 @@ ghost use Rattle.std.specs.Prelude.{◌≡◌, ◌<◌, ◌^◌, ◌*◌};
 ghost use Rattle.tree_rule.specs.Words.{body_word, cell_word, child_place, key_place, lock_place};
 ghost use Rattle.tree_rule.specs.Naming.{IsNamed};
 
-/// The most cells that an octree may hold: 21 for each of 65,536 bodies.
-pub const MOST_CELLS: u32 = 1_376_256;
+use octant_code::{LEVELS, MOST_BODIES};
 
-/// The most cells that one more body may take, one of each level that cells have.
-pub const CELLS_OF_ONE: u32 = 21;
+/// The most cells that one more body may take: one of each level but the deepest.
+pub const CELLS_OF_ONE: u32 = LEVELS;
+
+/// The most cells that an octree may hold, 1,376,256.
+pub const MOST_CELLS: u32 = CELLS_OF_ONE * MOST_BODIES;
 
 /// The place of the first cell's words. The root word stands before them at place 0.
 pub const FIRST_PLACE: usize = 3;
