@@ -103,7 +103,7 @@ lengths_same : (g h : ℕ → List ℕ) (n : ℕ) → ((k : ℕ) → k < n → l
 lengths_same g h n same = lengths_upto g (λ k. length (h k)) n same ∙ sym (lengths_upto h (λ k. length (h k)) n (λ k l. refl))
 
 -- the k-th of eight
-abbrev nth : Tree → Tree → Tree → Tree → Tree → Tree → Tree → Tree → ℕ → Tree
+abbrev pub nth : Tree → Tree → Tree → Tree → Tree → Tree → Tree → Tree → ℕ → Tree
 nth a b c d e f g h zero = a
 nth a b c d e f g h (suc zero) = b
 nth a b c d e f g h (suc (suc zero)) = c

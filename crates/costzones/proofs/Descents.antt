@@ -1,163 +1,136 @@
--- How a zone is gathered from the children of a cell.
-use Rattle.std.proofs.Common.{◌≡◌, ◌≤◌, ◌<◌, ◌+◌, ◌*◌, ℕ, suc, List, [], ◌∷◌, ◌++◌, length, refl, ap, ◌∙◌, sym, arith, add-one, append-nil, append_assoc, sum_by, map}
-use Rattle.std.proofs.lemmas.List.{map_push}
-use Rattle.std.proofs.Math.Nat.{mul-le-mul_left, mul-le-mul_right}
+-- How the bodies that begin in a range are gathered from the children of a cell.
+use Rattle.std.proofs.Common.{◌≡◌, ◌≤◌, ◌<◌, ◌+◌, ℕ, List, [], ◌∷◌, ◌++◌, length, ap, ◌∙◌, sym, arith, add-one, append-nil, append_assoc, true, false, All}
+use Rattle.std.proofs.lemmas.List.Elements.{All-get_or}
 use Rattle.bh_model.proofs.Lists.{joined}
 use Rattle.bh_model.proofs.Totals.{sum_upto, sum_upto-le, sum_upto-more, total-cell, total-order}
 use Rattle.bh_model.proofs.Trees.{order-body, order-empty}
-use Rattle.bh_model.specs.Bodies.{IsIn, numbers}
+use Rattle.bh_model.specs.Bodies.{IsIn}
 use Rattle.bh_model.specs.Moments.{total}
 use Rattle.bh_model.specs.Trees.{Tree, Body, Empty, cell_of, order}
-use Rattle.bh_model.specs.Zones.{zone, zone_from}
-use Rattle.costzones.specs.Shares.{IsShare, weight}
-use Rattle.costzones.proofs.Lists.{child_zone, skip_high, skip_low, zone-cell, zone-none, zone_nil, zone_one, zone_one-before}
-use Rattle.costzones.proofs.Weights.{child_weight, opened, weight_root, weights_cell}
+use Rattle.bh_model.specs.Zones.{IsCost, cost_at}
+use Rattle.costzones.specs.Ranges.{between, meets, opened_from}
+use Rattle.costzones.proofs.Openings.{child_opened, child_start, opened-body, opened-cell, opened-empty, opened-none}
+use Rattle.costzones.proofs.Ranges.{between-below, between-cell, between-in, between-nil, between-none, child_between}
 
--- the zone has the bodies of the first k children, no more cells of those were opened than they weigh, each with so many levels of cells, and the cell itself
-pub record IsGathered (cost : ℕ → ℕ) (W C w p : ℕ) (child : ℕ → Tree) (levels : ℕ) (start : List ℕ) (first k : ℕ) (items : List ℕ) (at steps : ℕ) : Type 0 where
-  pub at_is : at ≡ p + sum_upto (λ j. total cost (child j)) k
-  pub items_are : items ≡ start ++ joined (child_zone cost W C w p child) k
-  pub steps_few : steps ≤ first + 1 + levels * sum_upto (child_weight cost W C w p child) k
+-- each body of a tree costs something
+pub costs_positive : (tree : Tree) (costs : List ℕ) → ((n : ℕ) → IsIn (order tree) n → n < length costs) → All IsCost costs → (n : ℕ) → IsIn (order tree) n → 1 ≤ cost_at costs n
+costs_positive tree costs within each n i = (All-get_or IsCost costs n 0 (within n i) each).positive
+
+-- the bodies of the first k children are gathered, and the cells that were opened are the cell itself and those of these children
+pub record IsGathered (cost : ℕ → ℕ) (low high p : ℕ) (child : ℕ → Tree) (start : List ℕ) (first k : ℕ) (items : List ℕ) (at steps : ℕ) : Type 0 where
+  pub at_is : at ≡ child_start cost p child k
+  pub items_are : items ≡ start ++ joined (child_between cost low high p child) k
+  pub steps_are : steps ≡ first + 1 + sum_upto (child_opened cost low high p child) k
 
 -- before the first child
-pub gathered_none : (cost : ℕ → ℕ) (W C w p : ℕ) (child : ℕ → Tree) (levels : ℕ) (start : List ℕ) (first : ℕ) → IsGathered cost W C w p child levels start first 0 start p (first + 1)
+pub gathered_none : (cost : ℕ → ℕ) (low high p : ℕ) (child : ℕ → Tree) (start : List ℕ) (first steps : ℕ) → steps ≡ first + 1 → IsGathered cost low high p child start first 0 start p steps
 unfolding sum_upto
-gathered_none cost W C w p child levels start first = record {
-  at_is = omega arith;
-  items_are = sym (append-nil start);
-  steps_few = omega arith;
+gathered_none cost low high p child start first steps e = record { at_is = omega arith; items_are = sym (append-nil start); steps_are = omega arith }
+
+-- one child more
+pub gathered_more : {cost : ℕ → ℕ} {low high p : ℕ} {child : ℕ → Tree} {start : List ℕ} {first k : ℕ} {items : List ℕ} {at steps : ℕ} (next : List ℕ) (more to : ℕ) (tree : Tree)
+    → IsGathered cost low high p child start first k items at steps → tree ≡ child k → to ≡ at + total cost tree → next ≡ items ++ between cost low high at (order tree)
+    → more ≡ steps + opened_from cost low high at tree → IsGathered cost low high p child start first (k + 1) next to more
+gathered_more {cost} {low} {high} {p} {child} {start} {first} {k} {items} {at} {steps} next more to tree done same to_is next_is more_is = record {
+  at_is = omega (arith, done.at_is, to_is, ap (total cost) same, sum_upto-more (λ j. total cost (child j)) k);
+  items_are = next_is ∙ ap (λ t. items ++ between cost low high at (order t)) same ∙ ap (λ q. items ++ between cost low high q (order (child k))) done.at_is
+      ∙ ap (λ zs. zs ++ child_between cost low high p child k) done.items_are ∙ append_assoc start (joined (child_between cost low high p child) k) (child_between cost low high p child k)
+      ∙ ap (λ j. start ++ joined (child_between cost low high p child) j) (sym (add-one k));
+  steps_are =
+      omega (arith, more_is, done.steps_are, ap (opened_from cost low high at) same, ap (λ q. opened_from cost low high q (child k)) done.at_is, sum_upto-more (child_opened cost low high p child) k);
 }
 
--- the steps with one child more
-steps_more : (levels x y first s r : ℕ) → s ≤ first + 1 + levels * x → r ≤ s + levels * y → r ≤ first + 1 + levels * (x + y)
-steps_more levels x y first s r h k = omega arith
-
-pub gathered_more : (cost : ℕ → ℕ) (W C w p : ℕ) (child : ℕ → Tree) (levels : ℕ) (start : List ℕ) (first k : ℕ) (items next : List ℕ) (at steps more c child_levels : ℕ) (tree : Tree)
-    → IsGathered cost W C w p child levels start first k items at steps → tree ≡ child k → next ≡ items ++ zone_from cost W C at (order tree) w
-    → more ≤ steps + child_levels * weight cost W C w at tree → child_levels ≤ levels → c ≡ total cost tree
-    → IsGathered cost W C w p child levels start first (k + 1) next (at + c) more
-gathered_more cost W C w p child levels start first k items next at steps more c child_levels tree done same next_is few level c_is =
-    let before : ℕ = p + sum_upto (λ j. total cost (child j)) k in
-    let own : weight cost W C w at tree ≡ child_weight cost W C w p child k = ap (λ q. weight cost W C w q tree) done.at_is ∙ ap (weight cost W C w before) same in
-    let zone : zone_from cost W C at (order tree) w ≡ child_zone cost W C w p child k =
-    ap (λ q. zone_from cost W C q (order tree) w) done.at_is ∙ ap (λ t. zone_from cost W C before (order t) w) same in
-    let few' : more ≤ steps + levels * child_weight cost W C w p child k = omega (arith, few, mul-le-mul_right (weight cost W C w at tree) level, ap (λ x. levels * x) own) in
-    record {
-      at_is = omega (arith, done.at_is, c_is, ap (total cost) same, sum_upto-more (λ j. total cost (child j)) k);
-      items_are = next_is ∙ ap (λ zs. items ++ zs) zone ∙ ap (λ zs. zs ++ child_zone cost W C w p child k) done.items_are
-          ∙ append_assoc start (joined (child_zone cost W C w p child) k) (child_zone cost W C w p child k)
-          ∙ ap (λ j. start ++ joined (child_zone cost W C w p child) j) (sym (add-one k));
-      steps_few =
-          let s = steps_more levels (sum_upto (child_weight cost W C w p child) k) (child_weight cost W C w p child k) first steps more done.steps_few few' in
-          omega (arith, s, ap (λ x. levels * x) (sum_upto-more (child_weight cost W C w p child) k));
-    }
+-- one child more, whose span doesn't meet the range
+pub gathered_skip : {cost : ℕ → ℕ} {low high p : ℕ} {child : ℕ → Tree} {start : List ℕ} {first k : ℕ} {items : List ℕ} {at steps : ℕ} (to : ℕ) (tree : Tree)
+    → IsGathered cost low high p child start first k items at steps → tree ≡ child k → to ≡ at + total cost tree → ((n : ℕ) → IsIn (order tree) n → 1 ≤ cost n)
+    → meets low high at to ≡ false → IsGathered cost low high p child start first (k + 1) items to steps
+gathered_skip {cost} {low} {high} {p} {child} {start} {first} {k} {items} {at} {steps} to tree done same to_is one apart =
+    let apart' : meets low high at (at + total cost tree) ≡ false = ap (meets low high at) (sym to_is) ∙ apart in
+    let none = between-none cost low high at (order tree) one (ap (λ s. meets low high at (at + s)) (sym (total-order cost tree)) ∙ apart') in
+    gathered_more items steps to tree done same to_is (sym (append-nil items) ∙ ap (λ zs. items ++ zs) (sym none)) (omega (arith, opened-none cost low high at tree apart'))
 
 -- after all children
-pub gathered_items : (cost : ℕ → ℕ) (W C w p : ℕ) (child : ℕ → Tree) (levels : ℕ) (start : List ℕ) (first k : ℕ) (items : List ℕ) (at steps : ℕ) (tree : Tree)
-    → IsGathered cost W C w p child levels start first k items at steps → k ≡ 8 → tree ≡ cell_of child → items ≡ start ++ zone_from cost W C p (order tree) w
-gathered_items cost W C w p child levels start first k items at steps tree done all same =
-    done.items_are ∙ ap (λ j. start ++ joined (child_zone cost W C w p child) j) all
-    ∙ ap (λ zs. start ++ zs) (sym (ap (λ t. zone_from cost W C p (order t) w) same ∙ zone-cell cost W C w p child))
+pub gathered_items : {cost : ℕ → ℕ} {low high p : ℕ} {child : ℕ → Tree} {start : List ℕ} {first k : ℕ} {items : List ℕ} {at steps : ℕ} (tree : Tree)
+    → IsGathered cost low high p child start first k items at steps → k ≡ 8 → tree ≡ cell_of child → items ≡ start ++ between cost low high p (order tree)
+gathered_items {cost} {low} {high} {p} {child} {start} tree done all same =
+    done.items_are ∙ ap (λ j. start ++ joined (child_between cost low high p child) j) all
+    ∙ ap (λ zs. start ++ zs) (sym (ap (λ t. between cost low high p (order t)) same ∙ between-cell cost low high p child))
 
--- the cells that were opened below a cell and the cell itself, where its tree weighs something
-steps_end : (levels first s x y : ℕ) → s ≤ first + 1 + levels * x → x ≤ y → 1 ≤ y → s ≤ first + suc levels * y
-steps_end levels first s x y h l o = omega (arith, h, mul-le-mul_left levels l)
+-- the cells that a cell's span opens
+opened_cell : (cost : ℕ → ℕ) (low high p : ℕ) (child : ℕ → Tree) (tree : Tree) → tree ≡ cell_of child → meets low high p (p + total cost tree) ≡ true
+    → opened_from cost low high p tree ≡ 1 + sum_upto (child_opened cost low high p child) 8
+opened_cell cost low high p child tree same met =
+    ap (opened_from cost low high p) same ∙ opened-cell cost low high p child (ap (λ t. meets low high p (p + total cost t)) (sym same) ∙ met)
 
-pub gathered_steps : (cost : ℕ → ℕ) (W C w p : ℕ) (child : ℕ → Tree) (levels : ℕ) (start : List ℕ) (first k : ℕ) (items : List ℕ) (at steps : ℕ) (tree : Tree) (all_levels : ℕ)
-    → IsGathered cost W C w p child levels start first k items at steps → k ≤ 8 → tree ≡ cell_of child → 1 ≤ weight cost W C w p tree → all_levels ≡ suc levels
-    → steps ≤ first + all_levels * weight cost W C w p tree
-gathered_steps cost W C w p child levels start first k items at steps tree all_levels done small same heavy deeper =
-    let whole : weight cost W C w p tree ≡ weight cost W C w p (cell_of child) = ap (weight cost W C w p) same in
-    let less = sum_upto-le (child_weight cost W C w p child) k 8 small in
-    let end = steps_end levels first steps (sum_upto (child_weight cost W C w p child) k) (weight cost W C w p tree) done.steps_few
-    (omega (arith, less, weights_cell cost W C w p child, whole)) heavy in
-    omega (arith, end, ap (λ y. y * weight cost W C w p tree) deeper)
+pub gathered_opened : {cost : ℕ → ℕ} {low high p : ℕ} {child : ℕ → Tree} {start : List ℕ} {first k : ℕ} {items : List ℕ} {at steps : ℕ} (tree : Tree)
+    → IsGathered cost low high p child start first k items at steps → k ≡ 8 → tree ≡ cell_of child → meets low high p (p + total cost tree) ≡ true
+    → steps ≡ first + opened_from cost low high p tree
+gathered_opened {cost} {low} {high} {p} {child} tree done all same met =
+    omega (arith, done.steps_are, ap (sum_upto (child_opened cost low high p child)) all, opened_cell cost low high p child tree same met)
+
+-- where the descent breaks off in a child
+pub gathered_broken : {cost : ℕ → ℕ} {low high p : ℕ} {child : ℕ → Tree} {start : List ℕ} {first k : ℕ} {items : List ℕ} {at steps : ℕ} (more : ℕ) (part tree : Tree)
+    → IsGathered cost low high p child start first k items at steps → k < 8 → part ≡ child k → more ≤ steps + opened_from cost low high at part → tree ≡ cell_of child
+    → meets low high p (p + total cost tree) ≡ true → more ≤ first + opened_from cost low high p tree
+gathered_broken {cost} {low} {high} {p} {child} {k = k} {at = at} more part tree done small same few whole met =
+    omega (
+      arith,
+      few,
+      done.steps_are,
+      ap (opened_from cost low high at) same,
+      ap (λ q. opened_from cost low high q (child k)) done.at_is,
+      sum_upto-more (child_opened cost low high p child) k,
+      sum_upto-le (child_opened cost low high p child) (k + 1) 8 (omega arith),
+      opened_cell cost low high p child tree whole met,
+    )
 
 -- the children so far and one more cost no more than the cell
-pub cost_fits : (cost : ℕ → ℕ) (child : ℕ → Tree) (k : ℕ) → k < 8 → sum_upto (λ j. total cost (child j)) k + total cost (child k) ≤ total cost (cell_of child)
-cost_fits cost child k l =
-    omega (arith, total-cell cost child, sum_upto-le (λ j. total cost (child j)) (k + 1) 8 (omega arith), sum_upto-more (λ j. total cost (child j)) k)
+pub cost_fits : {cost : ℕ → ℕ} {low high p : ℕ} {child : ℕ → Tree} {start : List ℕ} {first k : ℕ} {items : List ℕ} {at steps : ℕ} (part tree : Tree)
+    → IsGathered cost low high p child start first k items at steps → k < 8 → part ≡ child k → tree ≡ cell_of child → at + total cost part ≤ p + total cost tree
+cost_fits {cost} {child = child} {k = k} part tree done small same whole =
+    omega (arith, done.at_is, ap (total cost) same, ap (total cost) whole, total-cell cost child, sum_upto-le (λ j. total cost (child j)) (k + 1) 8 (omega arith), sum_upto-more (λ j. total cost (child j)) k)
 
--- nothing is put behind a list where there is nothing
-pub none_more : (xs zs : List ℕ) → zs ≡ [] → xs ≡ xs ++ zs
-none_more xs zs e = sym (append-nil xs) ∙ ap (λ ys. xs ++ ys) (sym e)
+-- ---- no body and one body
 
--- what is put behind a list where there is as much
-pub so_many_more : (xs next ys zs : List ℕ) → next ≡ xs ++ ys → zs ≡ ys → next ≡ xs ++ zs
-so_many_more xs next ys zs more e = more ∙ ap (λ us. xs ++ us) (sym e)
+pub items_none : (cost : ℕ → ℕ) (low high p : ℕ) (tree : Tree) (items : List ℕ) → tree ≡ Empty → items ≡ items ++ between cost low high p (order tree)
+items_none cost low high p tree items e =
+    sym (append-nil items) ∙ ap (λ zs. items ++ zs) (sym (ap (λ t. between cost low high p (order t)) e ∙ ap (between cost low high p) order-empty ∙ between-nil cost low high p))
 
--- a tree that ends before a zone begins has none of it
-pub tree_before : (cost : ℕ → ℕ) (W C w p x : ℕ) (tree : Tree) → IsShare C W w → ((n : ℕ) → IsIn (order tree) n → 1 ≤ cost n) → x ≡ total cost tree → p * W + x * W ≤ w * C
-    → zone_from cost W C p (order tree) w ≡ []
-tree_before cost W C w p x tree share one e low =
-    let same : x ≡ sum_by cost (order tree) = e ∙ total-order cost tree in
-    skip_low cost W C p (order tree) w share.some_cost (omega (arith, share.is_worker)) one (omega (arith, low, ap (λ y. y * W) same))
+pub items_one : (cost : ℕ → ℕ) (low high p n : ℕ) (tree : Tree) (items next : List ℕ) → tree ≡ Body n → low ≤ p → p < high → next ≡ items ++ n ∷ []
+    → next ≡ items ++ between cost low high p (order tree)
+items_one cost low high p n tree items next e from to put =
+    put ∙ ap (λ zs. items ++ zs) (sym (ap (λ t. between cost low high p (order t)) e ∙ ap (between cost low high p) (order-body n) ∙ between-in cost low high p n [] from to
+    ∙ ap (λ zs. n ∷ zs) (between-nil cost low high (p + cost n))))
 
--- nor has one that begins after it ends
-pub tree_after : (cost : ℕ → ℕ) (W C w p : ℕ) (tree : Tree) → IsShare C W w → w * C + C ≤ p * W → zone_from cost W C p (order tree) w ≡ []
-tree_after cost W C w p tree share high = skip_high cost W C p (order tree) w share.some_cost (omega (arith, high))
+pub items_before : (cost : ℕ → ℕ) (low high p n : ℕ) (tree : Tree) (items : List ℕ) → tree ≡ Body n → p < low → items ≡ items ++ between cost low high p (order tree)
+items_before cost low high p n tree items e before =
+    sym (append-nil items)
+    ∙ ap (λ zs. items ++ zs) (sym (ap (λ t. between cost low high p (order t)) e ∙ ap (between cost low high p) (order-body n) ∙ between-below cost low high p n [] before
+    ∙ between-nil cost low high (p + cost n)))
 
--- a tree with cost that is neither weighs something
-pub tree_weighs : (cost : ℕ → ℕ) (W C w p x : ℕ) (tree : Tree) → IsShare C W w → 1 ≤ total cost tree → x ≡ total cost tree → w * C < p * W + x * W → p * W < w * C + C → 1 ≤ weight cost W C w p tree
-tree_weighs cost W C w p x tree share some e low high =
-    opened cost W C w p tree share.some_cost some (omega (arith, low, ap (λ y. y * W) e)) (omega (arith, high))
+pub opened_nothing : (cost : ℕ → ℕ) (low high p : ℕ) (tree : Tree) → tree ≡ Empty → opened_from cost low high p tree ≡ 0
+opened_nothing cost low high p tree e = ap (opened_from cost low high p) e ∙ opened-empty cost low high p
 
--- what a zone has of a tree without bodies
-pub zone_empty : (cost : ℕ → ℕ) (W C w p : ℕ) (tree : Tree) → tree ≡ Empty → zone_from cost W C p (order tree) w ≡ []
-zone_empty cost W C w p tree e = ap (λ t. zone_from cost W C p (order t) w) e ∙ ap (λ xs. zone_from cost W C p xs w) order-empty ∙ zone_nil cost W C p w
+pub opened_one : (cost : ℕ → ℕ) (low high p n : ℕ) (tree : Tree) → tree ≡ Body n → opened_from cost low high p tree ≡ 0
+opened_one cost low high p n tree e = ap (opened_from cost low high p) e ∙ opened-body cost low high p n
 
--- and of one body
-pub zone_body : (cost : ℕ → ℕ) (W C w p n : ℕ) (tree : Tree) → tree ≡ Body n → IsShare C W w → w * C ≤ p * W → p * W < w * C + C → zone_from cost W C p (order tree) w ≡ n ∷ []
-zone_body cost W C w p n tree e share low high =
-    ap (λ t. zone_from cost W C p (order t) w) e ∙ ap (λ xs. zone_from cost W C p xs w) (order-body n) ∙ zone_one cost W C p n w share.some_cost low (omega (arith, high))
+-- what is gathered of a whole tree, where a list was empty before
+pub record IsTaken (cost : ℕ → ℕ) (low high : ℕ) (tree : Tree) (first : ℕ) (items : List ℕ) (steps : ℕ) : Type 0 where
+  pub items_are : items ≡ between cost low high 0 (order tree)
+  pub steps_are : steps ≡ first + opened_from cost low high 0 tree
 
-pub zone_body-before : (cost : ℕ → ℕ) (W C w p n : ℕ) (tree : Tree) → tree ≡ Body n → IsShare C W w → p * W < w * C → zone_from cost W C p (order tree) w ≡ []
-zone_body-before cost W C w p n tree e share low =
-    ap (λ t. zone_from cost W C p (order t) w) e ∙ ap (λ xs. zone_from cost W C p xs w) (order-body n) ∙ zone_one-before cost W C p n w share.some_cost low
+pub taken_all : (cost : ℕ → ℕ) (low high : ℕ) (tree : Tree) (first : ℕ) (start items : List ℕ) (steps : ℕ) → start ≡ [] → items ≡ start ++ between cost low high 0 (order tree)
+    → steps ≡ first + opened_from cost low high 0 tree → IsTaken cost low high tree first items steps
+taken_all cost low high tree first start items steps none items_are steps_are =
+    record { items_are = items_are ∙ ap (λ xs. xs ++ between cost low high 0 (order tree)) none; steps_are = steps_are }
 
--- the steps where the descent breaks off in a child
-pub broken_steps : (cost : ℕ → ℕ) (W C w p : ℕ) (child : ℕ → Tree) (levels : ℕ) (start : List ℕ) (first k : ℕ) (items : List ℕ) (at steps more child_levels : ℕ) (part tree : Tree) (all_levels : ℕ)
-    → IsGathered cost W C w p child levels start first k items at steps → k < 8 → part ≡ child k → more ≤ steps + child_levels * weight cost W C w at part → child_levels ≤ levels
-    → tree ≡ cell_of child → 1 ≤ weight cost W C w p tree → all_levels ≡ suc levels → more ≤ first + all_levels * weight cost W C w p tree
-broken_steps cost W C w p child levels start first k items at steps more child_levels part tree all_levels done small same few level whole heavy deeper =
-    let next : List ℕ = items ++ zone_from cost W C at (order part) w in
-    gathered_steps cost W C w p child levels start first (k + 1) next (at + total cost part) more tree all_levels
-    (gathered_more cost W C w p child levels start first k items next at steps more (total cost part) child_levels part done same refl few level refl) (omega arith) whole heavy deeper
-
--- the zone of a whole tree
-zone_whole : (cost : ℕ → ℕ) (W w x : ℕ) (read tree : Tree) → x ≡ total cost read → read ≡ tree → zone_from cost W x 0 (order read) w ≡ zone cost W w tree
-zone_whole cost W w x read tree e same = ap (λ y. zone_from cost W y 0 (order read) w) (e ∙ total-order cost read) ∙ ap (zone cost W w) same
-
--- and what was gathered from the root on
-pub zone_gathered : (cost : ℕ → ℕ) (W w x : ℕ) (read tree : Tree) (start items : List ℕ) → x ≡ total cost read → read ≡ tree → start ≡ [] → items ≡ start ++ zone_from cost W x 0 (order read) w
-    → items ≡ zone cost W w tree
-zone_gathered cost W w x read tree start items e same none all =
-    all ∙ ap (λ xs. xs ++ zone_from cost W x 0 (order read) w) none ∙ zone_whole cost W w x read tree e same
-
--- where the whole cost is 0 there is no body
-pub zone_free : (cost : ℕ → ℕ) (W w x : ℕ) (read tree : Tree) → ((n : ℕ) → IsIn (order read) n → 1 ≤ cost n) → x ≡ total cost read → x ≡ 0 → read ≡ tree → zone cost W w tree ≡ []
-zone_free cost W w x read tree one e none same =
-    sym (zone_whole cost W w x read tree e same) ∙ zone-none cost W x 0 (order read) w one (omega (arith, total-order cost read))
-
--- the cells that were opened on the whole way
-pub steps_whole : (cost : ℕ → ℕ) (W w x levels : ℕ) (read tree : Tree) (before after : ℕ) → x ≡ total cost read → read ≡ tree → levels ≤ 21 → after ≤ before + levels * weight cost W x w 0 read
-    → after ≤ before + 21 * (length (zone cost W w tree) + 1)
-steps_whole cost W w x levels read tree before after e same low few =
-    omega (arith, few, mul-le-mul_right (weight cost W x w 0 read) low, weight_root cost W x w read, ap length (zone_whole cost W w x read tree e same))
-
--- one zone more
-numbers_more : (n : ℕ) → numbers (n + 1) ≡ numbers n ++ (n ∷ [])
-unfolding numbers
-numbers_more n = rw add-one
-
--- no zone yet
-pub zones_none : {X : Type 0} (its : X → List ℕ) (f : ℕ → List ℕ) (xs : List X) → xs ≡ [] → map its xs ≡ map f (numbers 0)
-unfolding numbers
-zones_none its f xs e = ap (map its) e
-
--- one zone more
-pub zones_more : {X : Type 0} (its : X → List ℕ) (f : ℕ → List ℕ) (xs next : List X) (x : X) (n : ℕ) → map its xs ≡ map f (numbers n) → next ≡ xs ++ (x ∷ []) → its x ≡ f n
-    → map its next ≡ map f (numbers (n + 1))
-zones_more its f xs next x n done more e =
-    ap (map its) more ∙ map_push its xs x ∙ ap (λ zs. zs ++ (its x ∷ [])) done ∙ ap (λ z. map f (numbers n) ++ (z ∷ [])) e
-    ∙ sym (ap (map f) (numbers_more n) ∙ map_push f (numbers n) n)
+-- nothing is where the tree's span doesn't meet the range
+pub taken_none : (cost : ℕ → ℕ) (low high whole : ℕ) (tree : Tree) (first : ℕ) (start : List ℕ) → start ≡ [] → ((n : ℕ) → IsIn (order tree) n → 1 ≤ cost n) → whole ≡ total cost tree
+    → meets low high 0 whole ≡ false → IsTaken cost low high tree first start first
+taken_none cost low high whole tree first start none one whole_is apart =
+    let all : whole ≡ 0 + total cost tree = omega (arith, whole_is) in
+    let apart' : meets low high 0 (0 + total cost tree) ≡ false = ap (meets low high 0) (sym all) ∙ apart in
+    record {
+      items_are = none ∙ sym (between-none cost low high 0 (order tree) one (ap (λ s. meets low high 0 (0 + s)) (sym (total-order cost tree)) ∙ apart'));
+      steps_are = omega (arith, opened-none cost low high 0 tree apart');
+    }

@@ -1,4 +1,5 @@
-pub mod Lists
-pub mod Weights
-pub mod Costs
-pub mod Descents
+mod Ranges
+mod Openings
+mod Descents
+mod ZoneCuts
+mod ZoneLists

@@ -1,13 +1,15 @@
 //! The zones of the workers.
 
-ghost use Rattle.std.specs.Prelude.{◌≡◌, ◌<◌, ◌≤◌, ◌+◌, ◌*◌, ℕ, All, IfOk, length, map};
+ghost use Rattle.std.specs.Prelude.{◌≡◌, ◌<◌, ◌≤◌, ◌+◌, ◌*◌, ℕ, All, IfOk, OnOk, length, map};
+ghost use Rattle.bh_model.specs.Bodies.{IsIn};
 ghost use Rattle.bh_model.specs.Plans.{HasWorkers};
-ghost use Rattle.bh_model.specs.Zones.{zone, zones};
-ghost use Rattle.mass_moments.specs.Kept.{HaveCosts, IsCost, cost_at};
+ghost use Rattle.bh_model.specs.Trees.{order};
+ghost use Rattle.bh_model.specs.Zones.{IsCost, cost_at, zone, zones};
+ghost use Rattle.costzones.specs.Ranges.{opened, range_start};
+ghost use Rattle.mass_moments.specs.Kept.{HaveCosts};
 ghost use Rattle.octree.specs.Stored.{tree_of};
-ghost use Rattle.tree_rule.specs.Words.{HasBody};
 
-use crate::descend::{Cut, cost_of, descend};
+use crate::descend::{Cut, descend, meets};
 use mass_moments::Moments;
 use octant_code::{OutOfMemory, Steps};
 use octree::Octree;
@@ -15,9 +17,20 @@ use std::alloc::Global;
 use std::marker::Brand;
 use std::sync::ledger::{Blank, Ledger};
 
+/// Where the range of zone `w` begins: `w * whole / workers`, rounded up.
+fn range_start(workers: u32, whole: u64, w: u32) -> u64
+    requires workers { HasWorkers workers }
+    requires worker { w ≤ workers }
+    ensures { result ≡ range_start workers whole w }
+{
+    let share = u128::from(w) * u128::from(whole) + u128::from(workers - 1);
+    (share / u128::from(workers)) as u64
+}
+
 /// Zone `w` of 1 to 64 workers, with its bodies in tree order (costzones: Singh, Holt, Totsuka, Gupta
 /// and Hennessy, JPDC 1995). It is read off on the way down from the root. A step is a cell that is
-/// opened: at most 21 for each body of the zone, and 21 more.
+/// opened: exactly those whose span of cost meets the zone's range, which are at most 21 for each body
+/// of the zone, and 21 more. Where no whole number lies in the range, none is.
 pub fn zone<L: Ledger>(
     alloc: Global,
     tree: &Octree,
@@ -27,29 +40,27 @@ pub fn zone<L: Ledger>(
     w: u32,
     steps: &mut Steps<L>,
 ) -> Result<Vec<u32>, OutOfMemory>
-    requires costs_of_bodies { (n : ℕ) → HasBody tree.now.words n → n < length costs.now }
+    requires costs_of_bodies { (n : ℕ) → IsIn (order (tree_of tree.now)) n → n < length costs.now }
     requires costs { All IsCost costs.now }
     requires moments { HaveCosts tree.now (cost_at costs.now) moments.now }
     requires workers { HasWorkers workers }
     requires worker { w < workers }
     ensures items { IfOk result (λ z. z.items ≡ zone (cost_at costs.now) workers w (tree_of tree.now)) }
+    ensures opened { OnOk result (steps.new ≡ steps.old + opened (cost_at costs.now) workers w (tree_of tree.now)) }
     ensures steps { steps.new ≤ steps.old + 21 * (length (zone (cost_at costs.now) workers w (tree_of tree.now)) + 1) }
 {
     let mut bodies = Vec::new(alloc);
     let root = tree.whole();
-    root.has_bodies_of_octree();
-    let whole = cost_of(&root, moments, costs);
-    if whole == 0 {
-        return Ok(bodies);
-    }
+    let whole = moments.cost_of(&root, costs);
     let cut = Cut {
         moments,
         costs,
-        whole,
-        workers,
-        w,
+        low: range_start(workers, whole, w),
+        high: range_start(workers, whole, w + 1),
     };
-    descend(&cut, &mut bodies, &root, 0, steps)?;
+    if meets(&cut, 0, whole) {
+        descend(&cut, &mut bodies, &root, 0, steps)?;
+    }
     Ok(bodies)
 }
 
@@ -64,7 +75,7 @@ fn zones_from<L: Ledger>(
 ) -> Result<Vec<Vec<u32>>, OutOfMemory>
     requires name { blank.name ≡ L.name }
     requires parts { (blank.parts ≡ L.parts) × (0 < blank.parts) }
-    requires costs_of_bodies { (n : ℕ) → HasBody tree.now.words n → n < length costs.now }
+    requires costs_of_bodies { (n : ℕ) → IsIn (order (tree_of tree.now)) n → n < length costs.now }
     requires costs { All IsCost costs.now }
     requires moments { HaveCosts tree.now (cost_at costs.now) moments.now }
     requires workers { HasWorkers workers }
@@ -91,7 +102,7 @@ pub fn zones(
     costs: &[u32],
     workers: u32,
 ) -> Result<Vec<Vec<u32>>, OutOfMemory>
-    requires costs_of_bodies { (n : ℕ) → HasBody tree.now.words n → n < length costs.now }
+    requires costs_of_bodies { (n : ℕ) → IsIn (order (tree_of tree.now)) n → n < length costs.now }
     requires costs { All IsCost costs.now }
     requires moments { HaveCosts tree.now (cost_at costs.now) moments.now }
     requires workers { HasWorkers workers }

@@ -1,45 +1,38 @@
 //! The descent to the bodies of one zone.
 
-ghost use Rattle.std.specs.Prelude.{◌≡◌, ◌<◌, ◌≤◌, ◌+◌, ◌*◌, ◌++◌, ℕ, All, OnOk, length};
+ghost use Rattle.std.specs.Prelude.{◌≡◌, ◌<◌, ◌≤◌, ◌+◌, ◌^◌, ◌++◌, ℕ, All, IsTrue, OnOk, length};
+ghost use Rattle.bh_model.specs.Bodies.{IsIn};
 ghost use Rattle.bh_model.specs.Moments.{total};
 ghost use Rattle.bh_model.specs.Trees.{order};
-ghost use Rattle.bh_model.specs.Zones.{zone_from};
-ghost use Rattle.costzones.specs.Shares.{IsShare, weight};
-ghost use Rattle.mass_moments.specs.Kept.{HaveCosts, IsCost, cost_at};
-ghost use Rattle.octree.specs.Spot.{height, tree_under};
-ghost use Rattle.tree_rule.specs.Words.{HasBody};
+ghost use Rattle.bh_model.specs.Zones.{IsCost, cost_at};
+ghost use Rattle.costzones.specs.Ranges.{between, meets, opened_from};
+ghost use Rattle.mass_moments.specs.Kept.{HaveCosts};
+ghost use Rattle.octree.specs.Spot.{tree_under};
 
 use mass_moments::Moments;
 use octant_code::{OutOfMemory, Steps};
 use octree::{Subtree, Top};
 use std::sync::ledger::Ledger;
 
-/// A zone that is cut out: that of worker `w` among so many, who share the whole cost.
+/// A zone that is cut out: that of the bodies that begin from the cost `low` up to but without `high`.
 #[derive(Clone, Copy)]
 pub struct Cut<'a> {
     pub moments: &'a Moments,
     pub costs: &'a [u32],
-    pub whole: u64,
-    pub workers: u32,
-    pub w: u32,
+    pub low: u64,
+    pub high: u64,
 }
 
-/// The cost of the bodies of a subtree.
-pub fn cost_of(node: &Subtree, moments: &Moments, costs: &[u32]) -> u64
-    requires costs_of_bodies { (n : ℕ) → HasBody node.now.octree.words n → n < length costs.now }
-    requires moments { HaveCosts node.now.octree (cost_at costs.now) moments.now }
-    ensures { result ≡ total (cost_at costs.now) (tree_under node.now) }
+/// Whether a whole number of a zone's range lies in a span of cost.
+#[inline]
+pub fn meets(cut: &Cut, from: u64, to: u64) -> bool
+    ensures { result ≡ meets cut.now.low cut.now.high from to }
 {
-    match node.top() {
-        Top::Nothing => 0,
-        Top::Body(n) => u64::from(costs[n as usize]),
-        Top::Cell(cell) => moments.of(cell.number()).cost,
-    }
+    cut.low.max(from) < cut.high.min(to)
 }
 
 /// Puts the bodies of the zone that stand in a subtree at the end of a list. The bodies before them have
-/// the cost `before`. A step is a cell that is opened, which is done only where its span of cost meets
-/// the zone's share.
+/// the cost `before`. A step is a cell that is opened: each whose span of cost meets the zone's range.
 pub fn descend<L: Ledger>(
     cut: &Cut,
     bodies: &mut Vec<u32>,
@@ -47,28 +40,19 @@ pub fn descend<L: Ledger>(
     before: u64,
     steps: &mut Steps<L>,
 ) -> Result<(), OutOfMemory>
-    requires costs_of_bodies { (n : ℕ) → HasBody node.now.octree.words n → n < length cut.now.costs.now }
+    requires costs_of_bodies { (n : ℕ) → IsIn (order (tree_under node.now)) n → n < length cut.now.costs.now }
     requires costs { All IsCost cut.now.costs.now }
     requires moments { HaveCosts node.now.octree (cost_at cut.now.costs.now) cut.now.moments.now }
-    requires share { IsShare cut.now.whole cut.now.workers cut.now.w }
-    requires fits { before + total (cost_at cut.now.costs.now) (tree_under node.now) ≤ cut.now.whole }
-    ensures items { OnOk result (bodies.new.items ≡ bodies.old.items ++ zone_from (cost_at cut.now.costs.now) cut.now.workers cut.now.whole before (order (tree_under node.now)) cut.now.w) }
-    ensures steps { steps.new ≤ steps.old + height (tree_under node.now) * weight (cost_at cut.now.costs.now) cut.now.workers cut.now.whole cut.now.w before (tree_under node.now) }
+    requires fits { before + total (cost_at cut.now.costs.now) (tree_under node.now) < 2 ^ 64 }
+    requires meets { IsTrue (meets cut.now.low cut.now.high before (before + total (cost_at cut.now.costs.now) (tree_under node.now))) }
+    ensures items { OnOk result (bodies.new.items ≡ bodies.old.items ++ between (cost_at cut.now.costs.now) cut.now.low cut.now.high before (order (tree_under node.now))) }
+    ensures opened { OnOk result (steps.new ≡ steps.old + opened_from (cost_at cut.now.costs.now) cut.now.low cut.now.high before (tree_under node.now)) }
+    ensures few { steps.new ≤ steps.old + opened_from (cost_at cut.now.costs.now) cut.now.low cut.now.high before (tree_under node.now) }
 {
-    node.has_bodies_of_octree();
-    let cost = cost_of(node, cut.moments, cut.costs);
-    // The zone's share and the node's span, both times the number of workers: nothing is divided.
-    let low = u128::from(cut.w) * u128::from(cut.whole);
-    let high = low + u128::from(cut.whole);
-    let from = u128::from(before) * u128::from(cut.workers);
-    let to = from + u128::from(cost) * u128::from(cut.workers);
-    if to <= low || high <= from {
-        return Ok(());
-    }
     match node.top() {
         Top::Nothing => Ok(()),
         Top::Body(n) => {
-            if low <= from {
+            if cut.low <= before {
                 match bodies.push(n) {
                     Ok(()) => Ok(()),
                     Err(_) => Err(OutOfMemory),
@@ -82,8 +66,11 @@ pub fn descend<L: Ledger>(
             let mut at = before;
             for k in 0..8 {
                 let child = cell.child(k);
-                descend(cut, bodies, &child, at, steps)?;
-                at += cost_of(&child, cut.moments, cut.costs);
+                let next = at + cut.moments.cost_of(&child, cut.costs);
+                if meets(cut, at, next) {
+                    descend(cut, bodies, &child, at, steps)?;
+                }
+                at = next;
             }
             Ok(())
         }

@@ -1,43 +1,43 @@
-use Rattle.std.proofs.Common.{sym, ◌∙◌}
-use Rattle.octree.specs.Spot.{height, tree_under}
+use Rattle.std.proofs.Common.{◌+◌, arith, ◌∙◌, sym, ap}
+use Rattle.bh_model.specs.Zones.{cost_at}
+use Rattle.octree.specs.Spot.{tree_under}
 use Rattle.octree.specs.Stored.{tree_of}
-use Rattle.mass_moments.specs.Kept.{cost_at}
-use Rattle.costzones.proofs.Costs.{costs_positive}
-use Rattle.costzones.proofs.Descents.{steps_whole, zone_free, zone_gathered}
+use Rattle.costzones.proofs.Descents.{IsTaken, costs_positive, taken_all, taken_none}
+use Rattle.costzones.proofs.ZoneCuts.{IsCutFor, cut_few, cut_opened, cut_zone}
+use Rattle.costzones.proofs.cut.zone.Goals.{After-meets, Joined-meets, then-meets+in_ok-descend, else-meets}
 use Rattle.costzones.proofs.cut.zone.Goals as goal
 
-pub cost_of-whole-requires-clause-costs_of_bodies : goal.cost_of-whole-requires-clause-costs_of_bodies
-cost_of-whole-requires-clause-costs_of_bodies g c = rw c.whole-root.ensures.octree c.requires.costs_of_bodies
+-- the range is that of the zone
+cut : (g : _) (c : After-meets g)
+    → IsCutFor (cost_at c.args.costs.now) c.args.workers c.args.w c.cost_of-whole.result c.range_start.result c.range_start-2.result (tree_under c.whole-root.result) (tree_of c.args.tree.now)
+cut g c = record {
+  some_worker = omega (arith, c.requires.worker);
+  positive = costs_positive (tree_under c.whole-root.result) c.args.costs.now (rw c.whole-root.ensures.tree c.requires.costs_of_bodies) c.requires.costs;
+  tall = c.whole-root.ensures.height;
+  whole_is = c.cost_of-whole.ensures;
+  same = c.whole-root.ensures.tree;
+  low_is = c.range_start.ensures;
+  high_is = c.range_start-2.ensures;
+}
 
-pub cost_of-whole-requires-clause-moments : goal.cost_of-whole-requires-clause-moments
-cost_of-whole-requires-clause-moments g c = rw c.whole-root.ensures.octree c.requires.moments
-
-pub descend-requires-clause-costs_of_bodies : goal.descend-requires-clause-costs_of_bodies
-descend-requires-clause-costs_of_bodies g c = rw c.whole-root.ensures.octree c.requires.costs_of_bodies
-
-pub descend-requires-clause-moments : goal.descend-requires-clause-moments
-descend-requires-clause-moments g c = rw c.whole-root.ensures.octree c.requires.moments
-
-pub returns-then-whole-eq0-clause-items : goal.returns-then-whole-eq0-clause-items
-returns-then-whole-eq0-clause-items g c =
-    let o = c.args.tree.now in
-    let costs = c.args.costs.now in
-    c.new-bodies.ensures.items
-    ∙ sym (zone_free (cost_at costs) c.args.workers c.args.w c.cost_of-whole.result (tree_under c.whole-root.result) (tree_of o)
-    (costs_positive c.whole-root.result costs c.has_bodies_of_octree.ensures (rw c.whole-root.ensures.octree c.requires.costs_of_bodies) c.requires.costs) c.cost_of-whole.ensures
-    c.if-whole-eq0.true c.whole-root.ensures.tree)
-
-pub returns-clause-items : goal.returns-clause-items
-returns-clause-items g c =
-    zone_gathered (cost_at c.args.costs.now) c.args.workers c.args.w c.cost_of-whole.result (tree_under c.whole-root.result) (tree_of c.args.tree.now) c.new-bodies.result.items c.descend.new.bodies.items
-    c.cost_of-whole.ensures c.whole-root.ensures.tree c.new-bodies.ensures.items c.in_ok-descend.ensures.items
-
-pub returns-clause-steps : goal.returns-clause-steps
-returns-clause-steps g c =
-    steps_whole (cost_at c.args.costs.now) c.args.workers c.args.w c.cost_of-whole.result (height (tree_under c.whole-root.result)) (tree_under c.whole-root.result) (tree_of c.args.tree.now) c.args.steps.now c.descend.new.steps
-    c.cost_of-whole.ensures c.whole-root.ensures.tree c.whole-root.ensures.height c.descend.ensures.steps
+-- what was gathered
+taken : (g : _) (c : Joined-meets g)
+    → IsTaken (cost_at c.args.costs.now) c.range_start.result c.range_start-2.result (tree_under c.whole-root.result) c.args.steps.now c.if-meets.bodies.items c.if-meets.steps
+taken g c =
+    let one = costs_positive (tree_under c.whole-root.result) c.args.costs.now (rw c.whole-root.ensures.tree c.requires.costs_of_bodies) c.requires.costs in
+    elim c.if-meets.branch [
+      | then-meets+in_ok-descend w ↦ rw (w.bodies-is, w.steps-is) (taken_all _ _ _ _ _ _ _ _ c.new-bodies.ensures.items w.in_ok-descend.ensures.items w.in_ok-descend.ensures.opened)
+      | else-meets w ↦ rw (w.bodies-is, w.steps-is) (taken_none _ _ _ _ _ _ _ c.new-bodies.ensures.items one c.cost_of-whole.ensures (sym c.meets.ensures ∙ w.if-meets.false))
+    ]
 
 pub returns-in_err-descend-clause-steps : goal.returns-in_err-descend-clause-steps
-returns-in_err-descend-clause-steps g c =
-    steps_whole (cost_at c.args.costs.now) c.args.workers c.args.w c.cost_of-whole.result (height (tree_under c.whole-root.result)) (tree_under c.whole-root.result) (tree_of c.args.tree.now) c.args.steps.now c.descend.new.steps
-    c.cost_of-whole.ensures c.whole-root.ensures.tree c.whole-root.ensures.height c.descend.ensures.steps
+returns-in_err-descend-clause-steps g c = omega (arith, c.descend.ensures.few, cut_few (cut g (goal.at.returns-in_err-descend-clause-steps g c).After-meets))
+
+pub returns-clause-items : goal.returns-clause-items
+returns-clause-items g c = (taken g c).items_are ∙ cut_zone (cut g (goal.at.returns-clause-items g c).After-meets)
+
+pub returns-clause-opened : goal.returns-clause-opened
+returns-clause-opened g c = (taken g c).steps_are ∙ ap (λ n. c.args.steps.now + n) (cut_opened (cut g (goal.at.returns-clause-opened g c).After-meets))
+
+pub returns-clause-steps : goal.returns-clause-steps
+returns-clause-steps g c = omega (arith, (taken g c).steps_are, cut_few (cut g (goal.at.returns-clause-steps g c).After-meets))

@@ -1,7 +1,6 @@
-use Rattle.bh_model.specs.Zones.{zone}
+use Rattle.bh_model.specs.Zones.{cost_at, zone}
 use Rattle.octree.specs.Stored.{tree_of}
-use Rattle.mass_moments.specs.Kept.{cost_at}
-use Rattle.costzones.proofs.Descents.{zones_more, zones_none}
+use Rattle.costzones.proofs.ZoneLists.{zones_more, zones_none}
 use Rattle.costzones.proofs.cut.zones_from.Goals as goal
 
 pub loop-w-init : goal.loop-w-init

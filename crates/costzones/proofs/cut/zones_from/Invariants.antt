@@ -1,8 +1,7 @@
 use Rattle.std.proofs.Common.{◌≡◌, map}
 use Rattle.bh_model.specs.Bodies.{numbers}
-use Rattle.bh_model.specs.Zones.{zone}
+use Rattle.bh_model.specs.Zones.{cost_at, zone}
 use Rattle.octree.specs.Stored.{tree_of}
-use Rattle.mass_moments.specs.Kept.{cost_at}
 use Rattle.costzones.proofs.cut.zones_from.Given as goal
 
 abbrev pub invariant-loop-w : goal.invariant-loop-w

@@ -1,0 +1,152 @@
+-- How many cells are opened on the way to the bodies that begin in a range of cost: at most as many as the tree is high for each of them, and as many again.
+use Rattle.std.proofs.Common.{◌≡◌, ◌≤◌, ◌<◌, ◌+◌, ◌-◌, ◌*◌, ◌&&◌, inl, inr, ℕ, zero, suc, cond, List, [], ◌∷◌, length, ltb, max, min, true, false, refl, ap, ◌∙◌, sym, arith, sum_by, length-append}
+use Rattle.std.proofs.Math.Nat.{mul-le-mul_left, mul-le-mul_right}
+use Rattle.std.proofs.lemmas.Bool.{cases_Bool, cases_lt, ltb-true}
+use Rattle.std.proofs.lemmas.Bool.Decides.{nat_tests}
+use Rattle.bh_model.proofs.Folds.{height_falls, nth}
+use Rattle.bh_model.proofs.Lists.{joined}
+use Rattle.bh_model.proofs.Totals.{each_of_eight, sum_upto, total-cell, total-order}
+use Rattle.bh_model.specs.Moments.{total}
+use Rattle.bh_model.specs.Trees.{Tree, Empty, Body, Cell, cell_of, height, order}
+use Rattle.costzones.specs.Ranges.{between, meets, opened_from}
+use Rattle.costzones.proofs.Ranges.{between-cell, between-in, child_between}
+
+-- ---- the cells of each kind of tree
+
+-- where a child of a cell begins
+abbrev pub child_start : (ℕ → ℕ) → ℕ → (ℕ → Tree) → ℕ → ℕ
+child_start cost p child k = p + sum_upto (λ j. total cost (child j)) k
+
+-- how many cells of a child are opened
+abbrev pub child_opened : (ℕ → ℕ) → ℕ → ℕ → ℕ → (ℕ → Tree) → ℕ → ℕ
+child_opened cost low high p child k = opened_from cost low high (child_start cost p child k) (child k)
+
+-- a cell that is opened
+pub opened-cell : (cost : ℕ → ℕ) (low high p : ℕ) (child : ℕ → Tree) → meets low high p (p + total cost (cell_of child)) ≡ true
+    → opened_from cost low high p (cell_of child) ≡ 1 + sum_upto (child_opened cost low high p child) 8
+unfolding opened_from sum_upto
+opened-cell cost low high p child test =
+    let O : ℕ → Tree → ℕ = λ q t. opened_from cost low high q t in
+    let T : ℕ → ℕ = λ k. total cost (child k) in
+    let end : p + total cost (cell_of child) ≡ p + T 0 + T 1 + T 2 + T 3 + T 4 + T 5 + T 6 + T 7 = omega (arith, total-cell cost child) in
+    let test' : meets low high p (p + T 0 + T 1 + T 2 + T 3 + T 4 + T 5 + T 6 + T 7) ≡ true = ap (meets low high p) (sym end) ∙ test in
+    rw test'
+    (omega (
+      arith,
+      ap (λ q. O q (child 0)) (let e : p ≡ child_start cost p child 0 = omega arith in e),
+      ap (λ q. O q (child 1)) (let e : p + T 0 ≡ child_start cost p child 1 = omega arith in e),
+      ap (λ q. O q (child 2)) (let e : p + T 0 + T 1 ≡ child_start cost p child 2 = omega arith in e),
+      ap (λ q. O q (child 3)) (let e : p + T 0 + T 1 + T 2 ≡ child_start cost p child 3 = omega arith in e),
+      ap (λ q. O q (child 4)) (let e : p + T 0 + T 1 + T 2 + T 3 ≡ child_start cost p child 4 = omega arith in e),
+      ap (λ q. O q (child 5)) (let e : p + T 0 + T 1 + T 2 + T 3 + T 4 ≡ child_start cost p child 5 = omega arith in e),
+      ap (λ q. O q (child 6)) (let e : p + T 0 + T 1 + T 2 + T 3 + T 4 + T 5 ≡ child_start cost p child 6 = omega arith in e),
+      ap (λ q. O q (child 7)) (let e : p + T 0 + T 1 + T 2 + T 3 + T 4 + T 5 + T 6 ≡ child_start cost p child 7 = omega arith in e),
+    ))
+
+-- and one that isn't
+opened-apart : (cost : ℕ → ℕ) (low high p : ℕ) (child : ℕ → Tree) → meets low high p (p + total cost (cell_of child)) ≡ false → opened_from cost low high p (cell_of child) ≡ 0
+unfolding opened_from sum_upto
+opened-apart cost low high p child test =
+    let T : ℕ → ℕ = λ k. total cost (child k) in
+    let end : p + total cost (cell_of child) ≡ p + T 0 + T 1 + T 2 + T 3 + T 4 + T 5 + T 6 + T 7 = omega (arith, total-cell cost child) in
+    let test' : meets low high p (p + T 0 + T 1 + T 2 + T 3 + T 4 + T 5 + T 6 + T 7) ≡ false = ap (meets low high p) (sym end) ∙ test in
+    rw test' refl
+
+pub opened-empty : (cost : ℕ → ℕ) (low high p : ℕ) → opened_from cost low high p Empty ≡ 0
+unfolding opened_from
+opened-empty cost low high p = refl
+
+pub opened-body : (cost : ℕ → ℕ) (low high p n : ℕ) → opened_from cost low high p (Body n) ≡ 0
+unfolding opened_from
+opened-body cost low high p n = refl
+
+-- no cell is opened where the tree's span doesn't meet the range
+pub opened-none : (cost : ℕ → ℕ) (low high p : ℕ) (tree : Tree) → meets low high p (p + total cost tree) ≡ false → opened_from cost low high p tree ≡ 0
+opened-none cost low high p Empty apart = opened-empty cost low high p
+opened-none cost low high p (Body n) apart = opened-body cost low high p n
+opened-none cost low high p (Cell a b c d e f g h) apart = opened-apart cost low high p (nth a b c d e f g h) apart
+
+-- ---- what trees weigh
+
+-- 1 where a range begins inside a span of cost, and 0 where it doesn't
+abbrev begins_in : ℕ → ℕ → ℕ → ℕ
+begins_in low p cost = cond (ltb p low && ltb low (p + cost)) 1 0
+
+-- a tree weighs as much as it has bodies that begin in the range, and 1 more where the range begins inside it
+abbrev weight : (ℕ → ℕ) → ℕ → ℕ → ℕ → Tree → ℕ
+weight cost low high p tree = length (between cost low high p (order tree)) + begins_in low p (total cost tree)
+
+-- a range begins in at most one of two spans in a row
+begins-two : (low p a b : ℕ) → begins_in low p a + begins_in low (p + a) b ≤ begins_in low p (a + b)
+begins-two low p a b = grind (arith, nat_tests)
+
+abbrev child_weight : (ℕ → ℕ) → ℕ → ℕ → ℕ → (ℕ → Tree) → ℕ → ℕ
+child_weight cost low high p child k = weight cost low high (child_start cost p child k) (child k)
+
+weights-le : (cost : ℕ → ℕ) (low high p : ℕ) (child : ℕ → Tree) (k : ℕ)
+    → sum_upto (child_weight cost low high p child) k ≤ length (joined (child_between cost low high p child) k) + begins_in low p (sum_upto (λ j. total cost (child j)) k)
+unfolding sum_upto
+weights-le cost low high p child zero = omega arith
+weights-le cost low high p child (suc k) =
+    omega (
+      arith,
+      weights-le cost low high p child k,
+      begins-two low p (sum_upto (λ j. total cost (child j)) k) (total cost (child k)),
+      length-append (joined (child_between cost low high p child) k) (child_between cost low high p child k),
+    )
+
+-- the children of a cell weigh no more than the cell
+weights_cell : (cost : ℕ → ℕ) (low high p : ℕ) (child : ℕ → Tree) → sum_upto (child_weight cost low high p child) 8 ≤ weight cost low high p (cell_of child)
+weights_cell cost low high p child = omega (arith, weights-le cost low high p child 8, ap length (between-cell cost low high p child), ap (begins_in low p) (total-cell cost child))
+
+-- bodies the first of which begins in the range have one of it
+first_inside : (cost : ℕ → ℕ) (low high p : ℕ) (xs : List ℕ) → 0 < sum_by cost xs → low ≤ p → p < high → 1 ≤ length (between cost low high p xs)
+first_inside cost low high p [] some a b = absurd (omega arith)
+first_inside cost low high p (n ∷ xs) some a b = rw (between-in cost low high p n xs a b) (omega arith)
+
+-- a tree whose span meets the range weighs something
+weighs : (cost : ℕ → ℕ) (low high p : ℕ) (tree : Tree) → meets low high p (p + total cost tree) ≡ true → 1 ≤ weight cost low high p tree
+weighs cost low high p tree test =
+    let met : max low p < min high (p + total cost tree) = ltb-true (max low p) (min high (p + total cost tree)) test in
+    elim (cases_lt p low) [
+      | inl less ↦ (let begins : begins_in low p (total cost tree) ≡ 1 = grind (arith, nat_tests) in omega arith)
+      | inr from ↦ (let some = first_inside cost low high p (order tree) (omega (arith, total-order cost tree)) from (omega arith) in omega arith)
+    ]
+
+-- ---- the bound
+
+-- a sum of numbers none of which is more than so many times another
+sum_upto-times : (f g : ℕ → ℕ) (most n : ℕ) → ((k : ℕ) → k < n → f k ≤ most * g k) → sum_upto f n ≤ most * sum_upto g n
+unfolding sum_upto
+sum_upto-times f g most zero each = omega arith
+sum_upto-times f g most (suc n) each = omega (arith, sum_upto-times f g most n (λ k l. each k (omega arith)), each n (omega arith))
+
+-- at most as many cells are opened as the tree is high, for each part of its weight
+opened-le_weight : (cost : ℕ → ℕ) (low high : ℕ) (tree : Tree) (p : ℕ) → opened_from cost low high p tree ≤ height tree * weight cost low high p tree
+opened-le_weight cost low high Empty p = omega (arith, opened-empty cost low high p)
+opened-le_weight cost low high (Body n) p = omega (arith, opened-body cost low high p n)
+opened-le_weight cost low high (Cell a b c d e f g h) p =
+    let kid : ℕ → Tree = nth a b c d e f g h in
+    let all : ℕ = weight cost low high p (cell_of kid) in
+    let below : ℕ = height (cell_of kid) - 1 in
+    let each : (k : ℕ) → k < 8 → (q : ℕ) → opened_from cost low high q (kid k) ≤ height (kid k) * weight cost low high q (kid k) =
+    each_of_eight (λ k. (q : ℕ) → opened_from cost low high q (kid k) ≤ height (kid k) * weight cost low high q (kid k)) (opened-le_weight cost low high a) (opened-le_weight cost low high b)
+    (opened-le_weight cost low high c) (opened-le_weight cost low high d) (opened-le_weight cost low high e) (opened-le_weight cost low high f) (opened-le_weight cost low high g) (opened-le_weight cost low high h) in
+    elim (cases_Bool (meets low high p (p + total cost (cell_of kid)))) [
+      | inl test ↦
+          let parts : sum_upto (child_opened cost low high p kid) 8 ≤ below * sum_upto (child_weight cost low high p kid) 8 =
+          sum_upto-times (child_opened cost low high p kid) (child_weight cost low high p kid) below 8
+          (λ k l. (let fall : height (kid k) ≤ below = omega (arith, height_falls kid k l) in
+          omega (arith, each k l (child_start cost p kid k), mul-le-mul_right (child_weight cost low high p kid k) fall))) in
+          let less : below * sum_upto (child_weight cost low high p kid) 8 ≤ below * all = mul-le-mul_left below (weights_cell cost low high p kid) in
+          let tall : height (cell_of kid) ≡ suc below = omega (arith, height_falls kid 0 (omega arith)) in
+          omega (arith, opened-cell cost low high p kid test, parts, less, weighs cost low high p (cell_of kid) test, ap (λ y. y * all) tall)
+      | inr apart ↦ omega (arith, opened-none cost low high p (cell_of kid) apart)
+    ]
+
+-- a tree of the whole cube: for each body that begins in the range, and once more
+pub opened_few : (cost : ℕ → ℕ) (low high : ℕ) (tree : Tree) → height tree ≤ 21 → opened_from cost low high 0 tree ≤ 21 * (length (between cost low high 0 (order tree)) + 1)
+opened_few cost low high tree tall =
+    let weighs_few : weight cost low high 0 tree ≤ length (between cost low high 0 (order tree)) + 1 = grind (arith, nat_tests) in
+    let low_tree = mul-le-mul_right (weight cost low high 0 tree) tall in
+    omega (arith, opened-le_weight cost low high tree 0, low_tree)
