@@ -1,11 +1,11 @@
-//! The plain program and the real path on made bodies.
+//! Runs over hundreds and thousands of made bodies.
 
 ghost use Rattle.std.specs.Prelude.{◌<◌, ◌↔◌, All, IsTrue};
 
-use bh_outside::{MemorySink, MemorySource};
+use crate::serving::{gives, run_with, sure_ends};
 use bh_plain::plain_text;
-use nbody_cli::{Status, serve};
-use scene_file::read_scene;
+use nbody_cli::Status;
+use scene_file::{read_scene, scene_text};
 use std::alloc::Global;
 use std::test::Fail;
 
@@ -17,7 +17,7 @@ fn are_below(numbers: &[u32], count: u32) -> bool
 }
 
 /// A scene of so many bodies at places that look drawn, some of them near one another.
-fn made_scene(alloc: Global, count: u32) -> Result<Vec<u8>, Fail> {
+pub fn made_scene(alloc: Global, count: u32) -> Result<Vec<u8>, Fail> {
     let mut scene: Vec<u8> = Vec::new(alloc);
     let mut state: u64 = 88_172_645_463_325_252;
     for i in 0..count {
@@ -42,15 +42,39 @@ fn the_plain_program_writes_the_same_tree(rt: HostRuntime) -> Result<(), Fail> {
     let numbers: Vec<u32> = (0..points.len()).collect(alloc)?;
     assert!(rt; are_below(&numbers, points.len()));
     let plain = plain_text(alloc, &points, &numbers)?;
-    let mut words: Vec<String> = Vec::new(alloc);
-    words.push(String::from_str(alloc, "tree")?)?;
-    let mut source = MemorySource::new(scene, 4096, Vec::new(alloc));
-    let mut sink = MemorySink::new(alloc, 1 << 16, 1000, Vec::new(alloc))?;
-    assert_eq!(rt; serve(&rt, &words, &mut source, &mut sink), Status::Done);
     let mut line = b"tree ".to_vec(alloc)?;
     line.extend_from_slice(&plain)?;
     line.push(b'\n')?;
     assert_eq!(rt; points.len(), 300);
-    assert!(rt; sink.bytes() == line.as_slice());
+    gives(&rt, "tree", &scene, Status::Done, &line)
+}
+
+/// The FNV-1a sum of bytes, in 64 bits.
+fn fnv_sum(bytes: &[u8]) -> u64 {
+    let mut sum: u64 = 0xcbf2_9ce4_8422_2325;
+    for byte in bytes {
+        sum = (sum ^ u64::from(*byte)).wrapping_mul(0x0100_0000_01b3);
+    }
+    sum
+}
+
+// The length and the sum of the text were worked out by a program in another language, from the
+// definitions alone.
+#[test]
+fn a_frame_of_4096_bodies(rt: HostRuntime) -> Result<(), Fail> {
+    let scene = made_scene(rt.alloc(), 4096)?;
+    let (status, text) = run_with(&rt, "run --workers 3", &scene, &sure_ends(1 << 20))?;
+    assert_eq!(rt; status, Status::Done);
+    assert_eq!(rt; text.len(), 293_285);
+    assert_eq!(rt; fnv_sum(&text), 0xaf4c_299e_0076_10dc);
+    Ok(())
+}
+
+#[test]
+fn the_text_of_300_bodies_is_what_was_read(rt: HostRuntime) -> Result<(), Fail> {
+    let alloc = rt.alloc();
+    let text = made_scene(alloc, 300)?;
+    let written = scene_text(alloc, &read_scene(alloc, &text)?)?;
+    assert!(rt; written.as_slice() == text.as_slice());
     Ok(())
 }

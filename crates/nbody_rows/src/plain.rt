@@ -1,14 +1,21 @@
-//! The plain program and the engine on laws at both ends of their ranges, the greatest masses, and
-//! points at the corners of the cube.
+//! The plain program and the real path: pulls by laws at both ends of their ranges over the greatest
+//! masses and points at the corners of the cube, and moments and zones by unequal costs.
 
-ghost use Rattle.std.specs.Prelude.{◌≡◌, ◌<◌, ◌≤◌, ◌^◌, IfOk, length, map};
+ghost use Rattle.std.specs.Prelude.{◌≡◌, ◌<◌, ◌≤◌, ◌^◌, All, IfOk, length, map};
 ghost use Rattle.bh_model.specs.Bodies.{numbers};
+ghost use Rattle.bh_model.specs.Zones.{IsCost};
+ghost use Rattle.octree.specs.Reading.{IsOctreeOf};
+ghost use Rattle.scene_file.specs.Bodies.{sites_of};
 ghost use Rattle.scene_file.specs.declared.bodies.Body.{Body};
 
+use crate::made::made_scene;
 use bh_model::{Builder, Law, Plan, Pull};
-use bh_plain::plain_pull;
+use bh_plain::{plain_moment, plain_pull, plain_zone};
+use costzones::zones;
 use frame_core::Engine;
+use mass_moments::{Moment, Moments, moments};
 use octant_code::OutOfMemory;
+use octree::{Node, Octree};
 use scene_file::{Bodies, read_scene};
 use std::alloc::Global;
 use std::process::Abort;
@@ -20,10 +27,7 @@ fn masses_of(alloc: Global, bodies: &Bodies) -> Result<Vec<u32>, OutOfMemory>
 {
     let mut masses = Vec::new(alloc);
     for n in 0..bodies.len() {
-        match masses.push(bodies.get(n).mass) {
-            Ok(()) => {}
-            Err(_) => return Err(OutOfMemory),
-        }
+        masses.push(bodies.get(n).mass)?;
     }
     Ok(masses)
 }
@@ -34,10 +38,7 @@ fn numbers_below(alloc: Global, count: u32) -> Result<Vec<u32>, OutOfMemory>
 {
     let mut list = Vec::new(alloc);
     for n in 0..count {
-        match list.push(n) {
-            Ok(()) => {}
-            Err(_) => return Err(OutOfMemory),
-        }
+        list.push(n)?;
     }
     Ok(list)
 }
@@ -110,4 +111,67 @@ fn opening_angles_at_both_ends(rt: HostRuntime) -> Result<(), Fail> {
     agrees(&rt, rt.alloc(), HEAVY, law_of(1, 65_535, 0, 1 << 32))?;
     agrees(&rt, rt.alloc(), HEAVY, law_of(3, 2, 0, 1 << 32))?;
     agrees(&rt, rt.alloc(), HEAVY, law_of(65_535, 1, 0, 1 << 32))
+}
+
+/// Unequal costs for so many bodies, from 1 to 7.
+fn unequal_costs(alloc: Global, count: u32) -> Result<Vec<u32>, OutOfMemory>
+    ensures count { IfOk result (λ costs. length costs.items ≡ count) }
+    ensures costs { IfOk result (λ costs. All IsCost costs.items) }
+{
+    let mut costs = Vec::new(alloc);
+    for n in 0..count {
+        costs.push(1 + n % 7)?;
+    }
+    Ok(costs)
+}
+
+/// The moment of all bodies, by the plain program.
+fn plain_whole(alloc: Global, bodies: &Bodies, costs: &[u32]) -> Result<Moment, OutOfMemory>
+    requires one_each { length costs.now ≡ length bodies.now }
+    requires costs { All IsCost costs.now }
+{
+    let count = bodies.len();
+    let points = bodies.points(alloc)?;
+    let masses = masses_of(alloc, bodies)?;
+    let all = numbers_below(alloc, count)?;
+    plain_moment(alloc, &points, &masses, costs, &all)
+}
+
+/// The zone of a worker, by the plain program.
+fn plain_zone_of(
+    alloc: Global,
+    bodies: &Bodies,
+    costs: &[u32],
+    workers: u32,
+    w: u32,
+) -> Result<Vec<u32>, OutOfMemory>
+    requires { length costs.now ≡ length bodies.now }
+{
+    let count = bodies.len();
+    let points = bodies.points(alloc)?;
+    let all = numbers_below(alloc, count)?;
+    plain_zone(alloc, &points, costs, workers, w, &all)
+}
+
+#[test]
+fn moments_and_zones_by_unequal_costs(rt: HostRuntime) -> Result<(), Fail> {
+    let alloc = rt.alloc();
+    let bodies = read_scene(alloc, &made_scene(alloc, 300)?)?.bodies;
+    let costs = unequal_costs(alloc, bodies.len())?;
+    let points = bodies.points(alloc)?;
+    let tree = Octree::of_points(alloc, &points)?;
+    let table = moments(&rt, alloc, &tree, &bodies, &costs)?;
+    let Node::Cell(root) = tree.root() else {
+        return Err(Fail::from("a root that is no cell"));
+    };
+    assert_eq!(rt; table.of(root), plain_whole(alloc, &bodies, &costs)?);
+    let cut = zones(alloc, &tree, &table, &costs, 7)?;
+    let mut w = 0;
+    for zone in &cut {
+        let plain = plain_zone_of(alloc, &bodies, &costs, 7, w)?;
+        assert!(rt; zone.as_slice() == plain.as_slice());
+        w += 1;
+    }
+    assert_eq!(rt; w, 7);
+    Ok(())
 }

@@ -19,3 +19,13 @@ fn cells_are_taken_and_given_back_at_the_end(rt: HostRuntime) -> Result<(), Fail
     assert!(rt; region.is_empty());
     Ok(())
 }
+
+#[test]
+fn a_region_of_a_thousand_cells_is_split(rt: HostRuntime) -> Result<(), Fail> {
+    let numbers: Vec<u32> = (0..1000u32).collect(rt.alloc())?;
+    let mut region = Region::of(numbers);
+    let tail = region.split_off(600)?;
+    assert_eq!(rt; tail.len(), 600);
+    assert_eq!(rt; region.len(), 400);
+    Ok(())
+}
