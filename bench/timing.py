@@ -13,7 +13,7 @@ def program_of(given):
     if given is None:
         if subprocess.run([os.path.join(TOP, "tools/build-nbody")]).returncode:
             sys.exit(1)
-        given = os.path.join(TOP, "crates/nbody/out/nbody")
+        given = os.path.join(TOP, "out/nbody")
     program = os.path.realpath(given)
     if not os.access(program, os.X_OK):
         sys.exit("there is no program %s" % program)
