@@ -20,11 +20,11 @@ def program_of(given):
     return program
 
 
-def milliseconds(program, file, wanted=0):
-    """The time of one whole run of the command `tree` on a scene's file. The text goes to /dev/null."""
+def milliseconds(program, file, wanted=0, words=("tree",)):
+    """The time of one whole run with these words on a scene's file. The text goes to /dev/null."""
     ends = [(os.POSIX_SPAWN_OPEN, 0, file, os.O_RDONLY, 0), (os.POSIX_SPAWN_OPEN, 1, os.devnull, os.O_WRONLY, 0)]
     start = time.perf_counter_ns()
-    child = os.posix_spawn(program, [program, "tree"], os.environ, file_actions=ends)
+    child = os.posix_spawn(program, [program, *words], os.environ, file_actions=ends)
     _, status = os.waitpid(child, 0)
     end = time.perf_counter_ns()
     if os.waitstatus_to_exitcode(status) != wanted:
