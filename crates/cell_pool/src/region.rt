@@ -4,29 +4,32 @@ use octant_code::OutOfMemory;
 use octree::CellNo;
 use std::marker::Model;
 
-/// Numbers of cells that are free, each once, with room for as many as it began with. The numbers
-/// are taken and given back at the end of the list.
+/// Numbers of cells that are free, each once, with room for as many as it began with. Single numbers
+/// are taken and given back at the end of the list. Several are used at once from its front: `rest`
+/// shows them, and `spend` gives up as many as were used, once they are.
 ///
 /// Contracts see it as `Free`: its cells and its room.
 #[derive(Debug, Drop)]
 pub struct Region {
     list: Vec<u32>,
+    // how many at the front of the list were spent
+    spent: usize,
     room: usize,
 }
 
 impl Model for Region {
-    ghost use Rattle.std.specs.Prelude.{◌≤◌, vec_capacity};
+    ghost use Rattle.std.specs.Prelude.{◌+◌, ◌≤◌, drop, length, vec_capacity};
     ghost use Rattle.cell_pool.specs.Free.{Free, IsRegion};
 
     ghost Value = { Free };
 
-    ghost view = { λ r. record { cells = r.list.items; room = r.room } };
+    ghost view = { λ r. record { cells = drop r.spent r.list.items; room = r.room } };
 
-    ghost invariant = { λ r. IsRegion (record { cells = r.list.items; room = r.room }) × (r.room ≤ vec_capacity r.list) };
+    ghost invariant = { λ r. IsRegion (record { cells = drop r.spent r.list.items; room = r.room }) × (r.spent ≤ length r.list.items) × (r.spent + r.room ≤ vec_capacity r.list) };
 }
 
 impl Region {
-    ghost use Rattle.std.specs.Prelude.{◌≡◌, ◌==◌, ◌<◌, ◌≤◌, [], ◌∷◌, ◌++◌, IfOk, OnErr, length};
+    ghost use Rattle.std.specs.Prelude.{◌≡◌, ◌==◌, ◌<◌, ◌≤◌, ◌-◌, [], ◌∷◌, ◌++◌, IfOk, OnErr, drop, length};
     ghost use Rattle.bh_model.specs.Bodies.{IsIn, NoneTwice};
     ghost use Rattle.cell_pool.specs.Free.{IsRegion, Splits};
 
@@ -37,7 +40,11 @@ impl Region {
         ensures room { result.room ≡ length list.items }
     {
         let room = list.len();
-        Region { list, room }
+        Region {
+            list,
+            spent: 0,
+            room,
+        }
     }
 
     /// Takes the last cell.
@@ -74,9 +81,30 @@ impl Region {
     {
         let from = self.list.len() - n;
         match self.list.split_off(from) {
-            Ok(list) => Ok(Region { list, room: n }),
+            Ok(list) => Ok(Region {
+                list,
+                spent: 0,
+                room: n,
+            }),
             Err(_) => Err(OutOfMemory),
         }
+    }
+
+    /// The cells, to be used from the front.
+    pub fn rest(&self) -> &[u32]
+        ensures { result.now ≡ self.now.cells }
+    {
+        &self.list[self.spent..]
+    }
+
+    /// Gives up the first `n` cells, which were used, and the room for them.
+    pub fn spend(&mut self, n: usize)
+        requires { n ≤ length self.old.cells }
+        ensures cells { self.new.cells ≡ drop n self.old.cells }
+        ensures room { self.new.room ≡ self.old.room - n }
+    {
+        self.spent += n;
+        self.room -= n;
     }
 
     /// How many cells there are.
@@ -84,14 +112,14 @@ impl Region {
         ensures value { result ≡ length self.now.cells }
         ensures rule { IsRegion self.now }
     {
-        self.list.len()
+        self.list.len() - self.spent
     }
 
     /// Whether there is no cell.
     pub fn is_empty(&self) -> bool
         ensures { result ≡ (length self.now.cells == 0) }
     {
-        self.list.is_empty()
+        self.list.len() == self.spent
     }
 
     /// How many cells there is room for.

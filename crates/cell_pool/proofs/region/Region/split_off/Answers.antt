@@ -1,7 +1,7 @@
-use Rattle.std.proofs.Common.{◌≡◌, ◌-◌, ◌≤◌, ℕ, subst, sym, arith, length, ap, vec_capacity, Vec, Global}
-use Rattle.bh_model.specs.Bodies.{NoneTwice}
-use Rattle.cell_pool.specs.Free.{Free}
-use Rattle.cell_pool.proofs.Regions.{once_drop, once_take}
+use Rattle.std.proofs.Common.{◌≡◌, ◌-◌, ◌+◌, ◌≤◌, vec_capacity, ℕ, subst, sym, arith, drop, length, length-drop, ap, Vec, Global}
+use Rattle.std.proofs.lemmas.List.{length-take-le}
+use Rattle.cell_pool.specs.Free.{Free, IsRegion}
+use Rattle.cell_pool.proofs.Regions.{cut_back, cut_front}
 use Rattle.cell_pool.proofs.region.Region.split_off.Goals.{in-Ok, in-Err}
 use Rattle.cell_pool.proofs.region.Region.split_off.Goals as goal
 
@@ -10,11 +10,15 @@ invariant_of-result c =
     let f = c.self.inside in
     let was = c.self.invariant in
     let tail = c.in-Ok.list in
-    let few : c.args.n ≤ length f.list.items = subst (λ (y : Free). c.args.n ≤ length y.cells) (sym c.self.view_is) c.requires in
-    let n : f.list.len ≡ length f.list.items = f.list.ok.0 in
-    let m : tail.len ≡ length tail.items = tail.ok.0 in (
-      record { once = subst NoneTwice (sym c.in-Ok.ensures.tail) (once_drop f.list.items (c.len.result - c.args.n) was.0.once); fits = omega (arith, few, c.len.ensures, c.in-Ok.ensures.tail_len, n, m) },
-      omega (arith, few, c.len.ensures, c.in-Ok.ensures.tail_len, n, m, tail.ok),
+    let k : ℕ = c.len.result - c.args.n in
+    let few : c.args.n ≤ length (drop f.spent f.list.items) = subst (λ (y : Free). c.args.n ≤ length y.cells) (sym c.self.view_is) c.requires in
+    let count : c.len.result ≡ length f.list.items = omega (arith, c.len.ensures, f.list.ok.0) in
+    let enough : f.spent + c.args.n ≤ length f.list.items = omega (arith, was.1, few, length-drop f.spent f.list.items) in
+    let own : length tail.items ≡ c.args.n = omega (arith, ap length c.in-Ok.ensures.tail, length-drop (c.len.result - c.args.n) f.list.items, count, enough) in (
+      subst (λ xs. IsRegion record { cells = xs; room = c.args.n }) (sym c.in-Ok.ensures.tail)
+          (cut_back f.list.items f.spent (c.len.result - c.args.n) c.args.n f.room (omega (arith, count, enough)) (omega (arith, count)) (omega (arith, count)) was.0),
+      omega arith,
+      omega (arith, own, tail.ok),
     )
 
 pub invariant_of-self : goal.invariant_of-self
@@ -22,12 +26,18 @@ invariant_of-self c =
     let f = c.self.inside in
     let was = c.self.invariant in
     let new = c.split_off.new.self in
-    let n : f.list.len ≡ length f.list.items = f.list.ok.0 in
-    let m : new.len ≡ length new.items = new.ok.0 in
-    let room : f.room ≤ vec_capacity new = omega (arith, was.1, c.split_off.ensures.capacity) in
+    let few : c.args.n ≤ length (drop f.spent f.list.items) = subst (λ (y : Free). c.args.n ≤ length y.cells) (sym c.self.view_is) c.requires in
+    let count : c.len.result ≡ length f.list.items = omega (arith, c.len.ensures, f.list.ok.0) in
+    let enough : f.spent + c.args.n ≤ length f.list.items = omega (arith, was.1, few, length-drop f.spent f.list.items) in
+    let room : f.spent + f.room ≤ vec_capacity new = omega (arith, was.2, c.split_off.ensures.capacity) in
     elim c.match-split_off.branch [
-      | in-Ok w ↦ (record { once = subst NoneTwice (sym w.in-Ok.ensures.items) (once_take f.list.items (c.len.result - c.args.n) was.0.once); fits = omega (arith, was.0.fits, w.in-Ok.ensures.len, c.len.ensures, n, m) }, room)
+      | in-Ok w ↦ (
+        subst (λ xs. IsRegion record { cells = drop f.spent xs; room = f.room }) (sym w.in-Ok.ensures.items)
+            (cut_front f.list.items f.spent (c.len.result - c.args.n) f.room (omega (arith, count, enough)) (omega (arith, count)) was.0),
+        omega (arith, ap length w.in-Ok.ensures.items, length-take-le (c.len.result - c.args.n) f.list.items (omega (arith, count)), count, enough),
+        room,
+      )
       | in-Err w ↦
           let same : new.items ≡ f.list.items = ap (λ (v : Vec ℕ Global). v.items) w.in-Err.ensures.err in
-          (record { once = subst NoneTwice (sym same) was.0.once; fits = omega (arith, was.0.fits, ap length same) }, room)
+          (subst (λ xs. IsRegion record { cells = drop f.spent xs; room = f.room }) (sym same) was.0, omega (arith, was.1, ap length same), room)
     ]
