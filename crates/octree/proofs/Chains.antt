@@ -1,5 +1,5 @@
 -- The steps of building the cells that part two bodies.
-use Rattle.std.proofs.Common.{ℕ, ◌+◌, ◌*◌, ◌<◌, ◌≤◌, ◌≡◌, ◌≢◌, ◌⊎◌, suc, refl, sym, ◌∙◌, ap, subst, inl, inr, arith, List, length, slice_set, add-one}
+use Rattle.std.proofs.Common.{ℕ, ◌+◌, ◌*◌, ◌<◌, ◌≡◌, ◌≢◌, ◌⊎◌, sym, ◌∙◌, ap, subst, inl, inr, arith, List, length, slice_set, add-one}
 use Rattle.octant_code.specs.Space.{Site, key_of, octant_of}
 use Rattle.octant_code.specs.Points.{site_at, ArePoints}
 use Rattle.octant_code.proofs.Keys.{key-suc, octant-small}
@@ -7,10 +7,7 @@ use Rattle.octant_code.proofs.Apart.{level_shallow}
 use Rattle.bh_model.proofs.Equal.{same_or_not}
 use Rattle.octree.proofs.Words.{at_past, at_set_other, at_set_same, set_length}
 use Rattle.octree.specs.Chain.{ArePair, IsOneOf, IsTaken}
-use Rattle.tree_rule.proofs.Chain.{fork_stands, link_stands}
-use Rattle.tree_rule.proofs.Parts.{Only}
-use Rattle.tree_rule.proofs.Shared.{pair_shares}
-use Rattle.tree_rule.proofs.Walk.{stands_same}
+use Rattle.tree_rule.proofs.Laws.{Only, fork_stands, link_stands, pair_shares, stands_same}
 use Rattle.tree_rule.specs.Flat.{IsShared, StandsFor}
 use Rattle.tree_rule.specs.Words.{at_of, body_word, cell_word, child_place, key_place}
 

@@ -6,9 +6,7 @@ use Rattle.bh_model.proofs.Trees.{keys-body, keys-cell, keys-empty}
 use Rattle.bh_model.specs.Trees.{Tree, cell_count, cell_keys_from}
 use Rattle.tree_rule.specs.Sound.{HereAs, IsReachedAs}
 use Rattle.tree_rule.specs.Words.{at_of, cell_word, cells_from, child_place, tree_from}
-use Rattle.tree_rule.proofs.Canonical.{ACell, NoBody, OneBody, WordIs, tree-body, tree-cell, tree-empty, word_is}
-use Rattle.tree_rule.proofs.Count.{cells-body, cells-cell, cells-empty, cells_once, cells_read, few_below}
-use Rattle.tree_rule.proofs.Sound.{forget}
+use Rattle.tree_rule.proofs.Laws.{ACell, NoBody, OneBody, WordIs, cells-body, cells-cell, cells-empty, cells_once, cells_read, few_below, forget, tree-body, tree-cell, tree-empty, word_is}
 use Rattle.octree.specs.Stored.{IsStored, Stored, cells_of, tree_of}
 use Rattle.octree.proofs.Texts.{tree-zero}
 

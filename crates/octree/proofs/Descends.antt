@@ -5,9 +5,7 @@ use Rattle.octant_code.specs.Space.{Site, octant_of, key_of}
 use Rattle.octant_code.specs.Points.{site_at}
 use Rattle.octant_code.proofs.Keys.{key-suc, octant-small, same_level}
 use Rattle.octree.specs.Stored.{StandsWell}
-use Rattle.tree_rule.proofs.Shared.{sharer}
-use Rattle.tree_rule.proofs.Graft.{word_at_place}
-use Rattle.tree_rule.proofs.Shared.{sharer}
+use Rattle.tree_rule.proofs.Laws.{sharer, word_at_place}
 use Rattle.tree_rule.specs.Flat.{ChildPlace, IsPlaceOf, IsWordOf, TopPlace}
 use Rattle.tree_rule.specs.Words.{Below, HasCell, Here, IsReached, at_of, cell_word, key_place}
 

@@ -8,10 +8,7 @@ use Rattle.octree.proofs.Locks.{unlocked_at_place}
 use Rattle.octree.proofs.Words.{at_set_other, at_set_same, set_length}
 use Rattle.octree.specs.Chain.{ArePair, IsOneOf, IsTaken}
 use Rattle.octree.specs.Stored.{IsCanonical, IsInserted, IsStored, StandsWell, Stored, word_count}
-use Rattle.tree_rule.proofs.Graft.{Grafts, graft, key_apart, word_at_place}
-use Rattle.tree_rule.proofs.Parts.{Nothing, Only, stands_body}
-use Rattle.tree_rule.proofs.Sound.{bodies_of_stands, sound_of_stands, stands_of_sound}
-use Rattle.tree_rule.proofs.Walk.{body_reached, cell_reached, stands_moved, stands_same}
+use Rattle.tree_rule.proofs.Laws.{Nothing, Only, bodies_of_stands, body_reached, cell_reached, graft, key_apart, sound_of_stands, stands_body, stands_moved, stands_of_sound, stands_same, word_at_place}
 use Rattle.tree_rule.specs.Flat.{ChildPlace, Either, IsPlaceOf, IsWordOf, StandsFor, TopPlace}
 use Rattle.tree_rule.specs.Locks.{AreUnlocked}
 use Rattle.tree_rule.specs.Words.{HasBody, HasCell, at_of, body_word, cell_word, child_place, key_place}

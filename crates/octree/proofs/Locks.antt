@@ -1,5 +1,5 @@
 -- The words that are not used and those of the locks stay 0 where others are written.
-use Rattle.std.proofs.Common.{ℕ, ◌+◌, ◌*◌, ◌<◌, ◌≤◌, ◌≡◌, ◌≢◌, ◌∙◌, ap, arith, inl, inr, List, length, slice_set}
+use Rattle.std.proofs.Common.{ℕ, ◌+◌, ◌*◌, ◌<◌, ◌≡◌, ◌≢◌, ◌∙◌, ap, arith, inl, inr, List, length, slice_set}
 use Rattle.std.proofs.lemmas.Bool.{cases_lt}
 use Rattle.octree.proofs.Words.{at_past, at_set_other}
 use Rattle.tree_rule.specs.Locks.{AreUnlocked}

@@ -1,11 +1,10 @@
 -- Words that are read in an octree.
-use Rattle.std.proofs.Common.{inl, inr, ℕ, ◌+◌, ◌*◌, ◌^◌, ◌<◌, ◌≤◌, ◌≡◌, sym, ◌∙◌, ap, subst, arith, List, length, replicate, slice_index_or}
+use Rattle.std.proofs.Common.{inl, inr, ℕ, ◌^◌, ◌<◌, ◌≤◌, ◌≡◌, sym, ◌∙◌, ap, subst, arith, List, length, replicate, slice_index_or}
 use Rattle.std.proofs.lemmas.Bool.{cases_lt}
 use Rattle.std.proofs.lemmas.List.{get_or-replicate, get_or_past, length-replicate, get_or_read}
 use Rattle.octree.specs.Stored.{IsStored, Stored}
 use Rattle.tree_rule.specs.Words.{lock_place}
-use Rattle.tree_rule.proofs.Canonical.{ACell, NoBody, OneBody, word_is}
-use Rattle.tree_rule.proofs.Sound.{forget}
+use Rattle.tree_rule.proofs.Laws.{ACell, NoBody, OneBody, forget, word_is}
 use Rattle.tree_rule.specs.Sound.{IsReachedAs, IsSound}
 use Rattle.tree_rule.specs.Words.{Below, Here, IsReached, at_of, body_word, cell_word}
 

@@ -5,8 +5,7 @@ use Rattle.std.proofs.lemmas.Bool.{cases_lt}
 use Rattle.octant_code.proofs.Keys.{pow8-mono}
 use Rattle.bh_model.proofs.Trees.{cell_of-same}
 use Rattle.bh_model.specs.Trees.{Tree, Empty as NoTree, Body as OneTree, cell_of}
-use Rattle.tree_rule.proofs.Canonical.{WordIs, NoBody, OneBody, ACell, word_is, tree-body, tree-cell, tree-empty}
-use Rattle.tree_rule.proofs.Sound.{forget}
+use Rattle.tree_rule.proofs.Laws.{ACell, NoBody, OneBody, WordIs, forget, tree-body, tree-cell, tree-empty, word_is}
 use Rattle.tree_rule.specs.Sound.{BelowAs, HereAs, IsReachedAs}
 use Rattle.tree_rule.specs.Words.{HasBody, HasCell, at_of, body_word, cell_word, child_place, tree_from}
 use Rattle.octree.specs.Node.{IsNodeOf}

@@ -1,5 +1,5 @@
 -- An octree keeps what it is when cells are reserved.
-use Rattle.std.proofs.Common.{ℕ, List, ◌≤◌, ◌≡◌, subst, sym}
+use Rattle.std.proofs.Common.{ℕ, List, ◌≤◌, subst, sym}
 use Rattle.octant_code.specs.Space.{Site}
 use Rattle.octree.specs.Stored.{IsCanonical, IsRoomier, IsStored, Stored}
 use Rattle.tree_rule.specs.Words.{HasBody, at_of}

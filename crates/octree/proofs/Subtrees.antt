@@ -9,9 +9,7 @@ use Rattle.bh_model.proofs.Lists.{in_joined, joined_in}
 use Rattle.bh_model.proofs.Trees.{cell_of-same, order-body, order-cell, order-empty}
 use Rattle.bh_model.specs.Bodies.{IsIn}
 use Rattle.bh_model.specs.Trees.{Tree, cell_of, height, order}
-use Rattle.tree_rule.proofs.Canonical.{ACell, NoBody, OneBody, WordIs, tree-body, tree-cell, tree-empty, word_is}
-use Rattle.tree_rule.proofs.Count.{Deeper, IsKeyBelow, Same, child_in_child, comparable}
-use Rattle.tree_rule.proofs.Sound.{forget}
+use Rattle.tree_rule.proofs.Laws.{ACell, Deeper, IsKeyBelow, NoBody, OneBody, Same, WordIs, child_in_child, comparable, forget, tree-body, tree-cell, tree-empty, word_is}
 use Rattle.tree_rule.specs.Sound.{BelowAs, HereAs, IsReachedAs}
 use Rattle.tree_rule.specs.Words.{Below, HasBody, HasCell, Here, IsReached, at_of, body_word, cell_word, child_place, tree_from}
 use Rattle.octree.specs.Stored.{Stored, IsStored, root_word, tree_of}

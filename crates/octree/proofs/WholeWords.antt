@@ -7,11 +7,10 @@ use Rattle.octant_code.proofs.Keys.{pow8-mono}
 use Rattle.octree.proofs.Locks.{unlocked_more}
 use Rattle.octree.proofs.Words.{at_longer, at_past}
 use Rattle.octree.specs.Stored.{AreOctreeWords, IsBlankFrom, IsStored, Stored, all_used, all_words, full_tree, spare_of, tree_with_used}
-use Rattle.tree_rule.specs.Locks.{AreUnlocked}
-use Rattle.tree_rule.proofs.Sound.{recall}
+use Rattle.tree_rule.proofs.Laws.{recall}
 use Rattle.tree_rule.specs.Words.{lock_place}
 use Rattle.tree_rule.specs.Sound.{IsSound}
-use Rattle.tree_rule.specs.Words.{Below, HasBody, HasCell, Here, IsReached, at_of, body_word, cell_word, child_place}
+use Rattle.tree_rule.specs.Words.{Below, HasCell, Here, IsReached, at_of, body_word, cell_word, child_place}
 
 -- the whole cube is of level 0
 pub whole_level : (o : Stored) → IsStored o → o.base ≡ 1 → o.level ≡ 0

@@ -1,7 +1,7 @@
 -- The words of a list after a write, and those of a list that was made longer or shorter.
-use Rattle.std.proofs.Common.{ℕ, ◌+◌, ◌-◌, ◌*◌, ◌<◌, ◌≤◌, ◌≡◌, ◌≢◌, ◌∙◌, ap, sym, arith, inl, inr, List, ◌++◌, length, length-append, replicate, slice_set, slice_index_or, take, get_or-set_same, get_or-set_other}
+use Rattle.std.proofs.Common.{ℕ, ◌<◌, ◌≤◌, ◌≡◌, ◌≢◌, ◌∙◌, ap, sym, inl, inr, List, length, slice_set, get_or-set_same, get_or-set_other}
 use Rattle.std.proofs.lemmas.Bool.{cases_lt}
-use Rattle.std.proofs.lemmas.List.{length-set, get_or_past, length-take-le, length-replicate}
+use Rattle.std.proofs.lemmas.List.{length-set, get_or_past}
 use mathlib.Core.Path.{fun_ext}
 use Rattle.tree_rule.specs.Words.{at_of}
 

@@ -1,7 +1,7 @@
 -- Words that stand for a list of bodies give the canonical octree of the list.
-use Rattle.std.proofs.Common.{ℕ, ◌+◌, ◌-◌, ◌*◌, ◌/◌, ◌%◌, ◌^◌, ◌<◌, ◌≤◌, ◌≡◌, zero, suc, refl, sym, ◌∙◌, ap, subst, inl, inr, arith, List, [], ◌∷◌, Bool, eqb}
+use Rattle.std.proofs.Common.{ℕ, ◌+◌, ◌*◌, ◌^◌, ◌<◌, ◌≤◌, ◌≡◌, zero, suc, refl, sym, ◌∙◌, ap, subst, inl, inr, arith, List, [], ◌∷◌, Bool, eqb}
 use Rattle.std.specs.List.{filter}
-use Rattle.std.proofs.lemmas.Bool.{cases_lt, eqb-true, eq-eqb, eqb-false}
+use Rattle.std.proofs.lemmas.Bool.{eqb-true, eq-eqb, eqb-false}
 use Rattle.std.proofs.Math.Nat.{pow-suc, pow-zero}
 use Rattle.octant_code.specs.Space.{Site, octant_of, key_of}
 use Rattle.octant_code.proofs.Keys.{key-zero, key-suc, octant-small, level_of_key, same_parent, same_child}
@@ -13,8 +13,8 @@ use Rattle.bh_model.specs.Trees.{Body, Empty, cell_of, in_octant, octree, octree
 use Rattle.tree_rule.proofs.Flat.{word_over}
 use Rattle.tree_rule.proofs.Shared.{sharer, two_sharers}
 use Rattle.tree_rule.specs.Flat.{Child, IsShared, IsWordOf, StandsFor, Top}
-use Rattle.tree_rule.specs.Words.{body_word, cell_word, child_place, tree_from, tree_of_named}
-use Rattle.tree_rule.proofs.Names.{named-none, named-body, named-cell}
+use Rattle.tree_rule.specs.Words.{BodyName, CellName, Named, NoName, body_word, cell_word, child_place, named_by, tree_from, tree_of_named, word_of}
+use Rattle.tree_rule.proofs.Names.{named-none, named-body, named-cell, word-named}
 
 -- the tree of the word 0
 pub tree-empty : (at : ℕ → ℕ) (below : ℕ) → tree_from at (suc below) 0 ≡ Empty
@@ -73,12 +73,16 @@ pub data WordIs (w : ℕ) : Type 0 where
   OneBody : (n : ℕ) → w ≡ body_word n → WordIs w
   ACell : (c : ℕ) → w ≡ cell_word c → WordIs w
 
--- each word is 0, odd, or even above 0
+-- the word of what is named is what it is
+is_of : (w : ℕ) (x : Named) → word_of x ≡ w → WordIs w
+unfolding word_of
+is_of w NoName e = NoBody (sym e)
+is_of w (BodyName n) e = OneBody n (sym e)
+is_of w (CellName c) e = ACell c (sym e)
+
+-- each word is 0, a body's or a cell's
 pub word_is : (w : ℕ) → WordIs w
-word_is w = elim (cases_lt 0 (w % 2)) [
-  | inl h ↦ OneBody (w / 2) (omega arith)
-  | inr h ↦ elim (cases_lt 0 w) [ inl g ↦ ACell (w / 2 - 1) (omega arith) | inr g ↦ NoBody (omega arith) ]
-]
+word_is w = is_of w (named_by w) (word-named w)
 
 -- where a word is 0 no body lies under its key
 none_under : (site : ℕ → Site) (at : ℕ → ℕ) (top base : ℕ) (P : ℕ → Type 0) (bodies : List ℕ) → StandsFor site at top base P (IsIn bodies)

@@ -7,6 +7,7 @@ use Rattle.tree_rule.proofs.Flat.{child_below_top}
 use Rattle.tree_rule.proofs.Replace.{BodiesOutside, CellsOutside, Replaces, read_alone, replaced}
 use Rattle.tree_rule.proofs.Walk.{amid_same, cell_is_reached}
 use Rattle.tree_rule.specs.Flat.{ChangedAt, Child, ChildPlace, Either, IsPlaceOf, IsWordOf, StandsAmid, Top, TopPlace}
+use Rattle.tree_rule.specs.declared.words.TheConstants.{FIRST_PLACE}
 use Rattle.tree_rule.specs.Words.{Below, Here, IsReached, body_word, cell_word, child_place, key_place}
 
 -- the word at the place of a key is the key's
@@ -26,12 +27,12 @@ place_of_word at first base IsCell key w (Top k e) = record { place = first; of_
 place_of_word at first base IsCell key w (Child c j p l k e) = record { place = child_place c j; of_key = ChildPlace c j p l k refl; holds = e }
 
 -- no key stands at a place of a word, where the root word stands before all cells
-pub key_apart : (at : ℕ → ℕ) (first base : ℕ) (IsCell : ℕ → Type 0) (key place c : ℕ) → first < 3 → IsPlaceOf at first base IsCell key place → key_place c ≢ place
+pub key_apart : (at : ℕ → ℕ) (first base : ℕ) (IsCell : ℕ → Type 0) (key place c : ℕ) → first < FIRST_PLACE → IsPlaceOf at first base IsCell key place → key_place c ≢ place
 key_apart at first base IsCell key place c low (TopPlace k e) = λ x. omega arith
 key_apart at first base IsCell key place c low (ChildPlace d j p l k e) = λ x. omega arith
 
 -- a place has one key, where the root word stands before all cells
-pub one_key : (at : ℕ → ℕ) (first base : ℕ) (IsCell : ℕ → Type 0) (key key' place : ℕ) → first < 3 → IsPlaceOf at first base IsCell key place → IsPlaceOf at first base IsCell key' place → key ≡ key'
+pub one_key : (at : ℕ → ℕ) (first base : ℕ) (IsCell : ℕ → Type 0) (key key' place : ℕ) → first < FIRST_PLACE → IsPlaceOf at first base IsCell key place → IsPlaceOf at first base IsCell key' place → key ≡ key'
 one_key at first base IsCell key key' place low (TopPlace k e) (TopPlace k' e') = k ∙ sym k'
 one_key at first base IsCell key key' place low (TopPlace k e) (ChildPlace c j p l k' e') = absurd (omega arith)
 one_key at first base IsCell key key' place low (ChildPlace c j p l k' e') (TopPlace k e) = absurd (omega arith)

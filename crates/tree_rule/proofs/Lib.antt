@@ -17,3 +17,4 @@ pub mod Complete
 pub mod Published
 pub mod Noted
 pub mod Tested
+pub mod Laws

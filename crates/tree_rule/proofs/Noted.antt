@@ -1,6 +1,7 @@
 -- Notes on published words stay true where words are published.
 use Rattle.std.proofs.Common.{ℕ, ◌<◌, ◌≡◌, ◌⊎◌, ◌∙◌, ap, inl, inr, arith}
 use Rattle.bh_model.proofs.Equal.{same_or_not}
+use Rattle.tree_rule.specs.declared.words.TheConstants.{FIRST_PLACE}
 use Rattle.tree_rule.specs.Words.{body_word, cell_word, key_place}
 use Rattle.tree_rule.specs.Flat.{ChangedAt, IsPlaceOf}
 use Rattle.tree_rule.specs.Notes.{AreLater, HasNamed, IsPublishedAs, NamesItOrCell}
@@ -40,7 +41,7 @@ goes_on at at' place w other none next changed is = elim (same_or_not other plac
 ]
 
 -- where one published word is changed that names no cell, and becomes a cell's where it names a body, the words are later ones
-pub published_later : (at at' : ℕ → ℕ) (root base : ℕ) (P Q : ℕ → Type 0) (key place w : ℕ) → root < 3 → IsPlaceOf at root base P key place → ((c : ℕ) → P c → Q c)
+pub published_later : (at at' : ℕ → ℕ) (root base : ℕ) (P Q : ℕ → Type 0) (key place w : ℕ) → root < FIRST_PLACE → IsPlaceOf at root base P key place → ((c : ℕ) → P c → Q c)
     → ((c : ℕ) → at place ≡ cell_word c → ⊥) → ((n : ℕ) → at place ≡ body_word n → (c : ℕ) × (w ≡ cell_word c)) → ChangedAt at at' place w → AreLater at at' root base P Q
 published_later at at' root base P Q key place w low there more none next changed = record {
   cells_stay = more;

@@ -104,15 +104,6 @@ right_cell site at cells bodies h c p =
 pub body_is_named : (site : ℕ → Site) (at : ℕ → ℕ) (cells bodies : List ℕ) → NamesExactly site at 0 1 cells [] bodies → (n : ℕ) → IsIn bodies n → IsNamedSomewhere at cells (body_word n)
 body_is_named site at cells bodies h n b = let o = h.body_once n b in record { key = o.key; place = o.place; published = o.published; named = word_of_body (at o.place) n o.named }
 
--- where the words name exactly, all parts are right
-pub right_of_exact : (site : ℕ → Site) (at : ℕ → ℕ) (cells bodies : List ℕ) → NamesExactly site at 0 1 cells [] bodies → AllRight site at cells bodies
-right_of_exact site at cells bodies h = record {
-  none_twice = subst NoneTwice (append-nil cells) h.none_twice;
-  root = right_word site at cells bodies h 1 0 (TopPlace refl refl);
-  cells_right = right_cell site at cells bodies h;
-  bodies_named = body_is_named site at cells bodies h;
-}
-
 -- the number at a place of a list is a member
 pub member_at : (xs : List ℕ) (k : ℕ) → k < length xs → IsIn xs (get_or xs k 0)
 member_at [] k l = absurd (omega arith)
@@ -196,10 +187,6 @@ child_key key k l s = (suc l.0, omega (arith, l.1), omega (arith, l.2, pow-suc 8
 -- a cell's key is below 2 ^ 61
 pub cell_key_small : (key : ℕ) → IsCellKey key → key < 2 ^ 61
 cell_key_small key l = omega (arith, l.3, pow8-mono l.0 20 (omega (arith, l.1)))
-
--- a cell's key is that of a cube
-pub cell_key_is_key : (key : ℕ) → IsCellKey key → IsKey key
-cell_key_is_key key l = (l.0, omega (arith, l.1), l.2, l.3)
 
 -- no key of a cell is below the least of a level, where it isn't one of a level above
 pub no_key_below : (key i : ℕ) → key < 8 ^ i → ((k : ℕ) → k < i → 2 * 8 ^ k ≤ key) → IsCellKey key → ⊥

@@ -1,4 +1,4 @@
-use Rattle.std.proofs.Common.{arith, ap, ◌∙◌, subst, sym}
+use Rattle.std.proofs.Common.{arith, ap, subst, sym}
 use Rattle.octree.proofs.ReadWords.{read_small}
 use Rattle.octree.specs.Stored.{Stored}
 use Rattle.tree_rule.specs.Words.{Below, HasCell, at_of}

@@ -1,4 +1,4 @@
-use Rattle.std.proofs.Common.{◌≡◌, ◌<◌, length, arith}
+use Rattle.std.proofs.Common.{◌<◌, arith}
 use Rattle.octant_code.specs.Points.{site_at}
 use Rattle.octree.proofs.Builds.{built_more, built_none, built_roomier, built_tree, under_whole}
 use Rattle.octree.proofs.octree.Octree.of_points.Goals as goal

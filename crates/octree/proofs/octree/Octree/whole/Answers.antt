@@ -1,6 +1,5 @@
 use Rattle.std.proofs.Common.{◌<◌, length, subst, arith}
 use Rattle.std.proofs.lemmas.List.{get_or_read}
-use Rattle.octree.specs.Spot.{IsSpot}
 use Rattle.octree.specs.Stored.{Stored}
 use Rattle.octree.proofs.Subtrees.{IsWhole, spot_at, whole_is}
 use Rattle.octree.proofs.octree.Octree.whole.Goals.{After-index}
