@@ -295,7 +295,7 @@ impl Octree {
         ensures numbers { result ≡ length (cells_of self.now) }
         ensures tree { result ≡ cell_count (tree_of self.now) }
     {
-        count_cells(&self.whole(), 0)
+        count_cells(self.whole(), 0)
     }
 
     /// The greatest level of a word that names a body, counted from the root's word, which is of level
@@ -303,7 +303,7 @@ impl Octree {
     pub fn depth(&self) -> u32
         ensures { result ≡ depth (tree_of self.now) }
     {
-        deepest_body(&self.whole(), 0)
+        deepest_body(self.whole(), 0)
     }
 
     /// The bodies in tree order: those of child 0 first, then those of child 1, and so on.
@@ -311,7 +311,7 @@ impl Octree {
         ensures { IfOk result (λ v. v.items ≡ order (tree_of self.now)) }
     {
         let mut bodies = Vec::new(alloc);
-        push_order(&self.whole(), &mut bodies)?;
+        push_order(self.whole(), &mut bodies)?;
         Ok(bodies)
     }
 
