@@ -58,8 +58,7 @@ impl Octree {
     ghost use Rattle.tree_rule.specs.Words.{at_of, child_place, HasBody, HasCell};
     ghost use Rattle.tree_rule.specs.Standing.{WordsNameExactly};
     ghost use Rattle.octree.specs.Node.{IsNodeOf};
-    ghost use Rattle.octree.specs.Stored.{AreOctreeWords, IsBlankFrom, IsCanonical, IsInserted, IsRoomier, IsStored, all_used, all_words, cells_of, full_tree, root_word, spare_of, tree_of, tree_with_used, word_count};
-    ghost use Rattle.octree.specs.Reading.{IsOctreeOf};
+    ghost use Rattle.octree.specs.Stored.{AreOctreeWords, IsBlankFrom, IsCanonical, IsInserted, IsOctreeOf, IsRoomier, IsStored, all_used, all_words, cells_of, full_tree, root_word, spare_of, tree_of, tree_with_used, word_count};
     ghost use Rattle.octree.specs.Spot.{IsCellUnder, tree_under};
     ghost use Rattle.bh_model.specs.Trees.{height};
 
