@@ -7,7 +7,7 @@ use Rattle.octant_code.specs.Points.{site_at}
 use Rattle.octant_code.specs.Space.{Site, key_of}
 use Rattle.bh_model.specs.Bodies.{IsIn, NoneTwice}
 use Rattle.bh_model.specs.Trees.{Tree, octree_from, order}
-use Rattle.octree.proofs.Inserts.{base_positive, stands_of}
+use Rattle.octree.proofs.Insertions.{base_positive, stands_of}
 use Rattle.octree.proofs.Subtrees.{bodies_of_tree, deep_enough, root_spot, spot_at}
 use Rattle.octree.specs.Spot.{IsSpot}
 use Rattle.octree.specs.Stored.{IsCanonical, IsStored, StandsWell, Stored, cells_of, root_word, tree_of}
