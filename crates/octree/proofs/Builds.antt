@@ -10,7 +10,7 @@ use Rattle.octant_code.specs.Points.{site_at}
 use Rattle.octree.proofs.Subtrees.{bodies_of_tree}
 use Rattle.octree.proofs.WholeWords.{whole_level}
 use Rattle.octree.proofs.ReadWords.{reached_blank}
-use Rattle.octree.proofs.Roomier.{bodies_roomier, roomier_bodies, roomier_canonical}
+use Rattle.octree.proofs.Rooms.{bodies_roomier, roomier_bodies, roomier_canonical}
 use Rattle.octree.specs.Stored.{IsCanonical, IsInserted, IsRoomier, IsStored, Stored, tree_of}
 use Rattle.tree_rule.proofs.Laws.{forget}
 use Rattle.tree_rule.specs.Words.{HasBody, at_of, body_word}

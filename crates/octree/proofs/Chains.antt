@@ -1,13 +1,16 @@
 -- The steps of building the cells that part two bodies.
-use Rattle.std.proofs.Common.{ℕ, ◌+◌, ◌*◌, ◌<◌, ◌≡◌, ◌≢◌, ◌⊎◌, sym, ◌∙◌, ap, subst, inl, inr, arith, List, length, slice_set, add-one}
+use Rattle.std.proofs.Common.{ℕ, ◌+◌, ◌*◌, ◌<◌, ◌≤◌, ◌≡◌, ◌≢◌, ◌⊎◌, suc, refl, sym, ◌∙◌, ap, subst, inl, inr, arith, List, length, slice_set, add-one}
 use Rattle.octant_code.specs.Space.{Site, key_of, octant_of}
 use Rattle.octant_code.specs.Points.{site_at, ArePoints}
 use Rattle.octant_code.proofs.Keys.{key-suc, octant-small}
 use Rattle.octant_code.proofs.Apart.{level_shallow}
 use Rattle.bh_model.proofs.Equal.{same_or_not}
 use Rattle.octree.proofs.Words.{at_past, at_set_other, at_set_same, set_length}
-use Rattle.octree.specs.Chain.{ArePair, IsOneOf, IsTaken}
+use Rattle.octree.specs.Chain.{ArePair, IsCellAdded, IsOneOf, IsTaken}
+use Rattle.octree.specs.Stored.{word_count}
+use Rattle.octree.proofs.Locks.{unlocked_in_cell, unlocked_more}
 use Rattle.tree_rule.proofs.Laws.{Only, fork_stands, link_stands, pair_shares, stands_same}
+use Rattle.tree_rule.specs.Locks.{AreUnlocked}
 use Rattle.tree_rule.specs.Flat.{IsShared, StandsFor}
 use Rattle.tree_rule.specs.Words.{at_of, body_word, cell_word, child_place, key_place}
 
@@ -36,25 +39,31 @@ pair_cube sites x n key level pair =
     subst (λ (y : ℕ). IsShared (site_at sites) (IsOneOf x n) y) (sym pair.n_under)
     (pair_shares (site_at sites) x n level (omega (arith, pair.shallow)) pair.differ (sym pair.x_under ∙ pair.n_under))
 
--- the child words of a cell whose words were added are 0
-blank_child : (words longer : List ℕ) (used j : ℕ) → length words ≡ 3 + 10 * used → at_of longer ≡ at_of words → at_of longer (child_place used j) ≡ 0
-blank_child words longer used j len same = ap (λ (at : ℕ → ℕ). at (child_place used j)) same ∙ at_past words (child_place used j) (omega arith)
+-- the words of one more cell with its key
+pub added : (words longer : List ℕ) (cell key p : ℕ) → length words ≡ word_count cell → length longer ≡ word_count (cell + 1) → at_of longer ≡ at_of words → p ≡ key_place cell
+    → AreUnlocked words cell → IsCellAdded words (slice_set longer p key) cell key
+added words longer cell key p len more same is_p unlocked =
+    let other : (i : ℕ) → i ≢ p → at_of (slice_set longer p key) i ≡ at_of words i = λ i d. at_set_other longer p i key d ∙ ap (λ (at : ℕ → ℕ). at i) same in
+    record {
+      len = set_length longer p key ∙ more;
+      kept = λ i l. other i (λ e. omega arith);
+      keyed = at_set_same longer p (key_place cell) key (sym is_p) (omega arith);
+      empty = λ k l. other (child_place cell k) (λ e. omega arith) ∙ at_past words (child_place cell k) (omega arith);
+      unlocked = unlocked_in_cell longer (cell + 1) cell 8 p key (unlocked_more words longer cell (cell + 1) unlocked len same) (omega arith) (omega arith);
+    }
 
 -- the cell over a chain: `longer` are the words with those of the cell, and `after` those with the chain
-pub linked : (sites : List Site) (words longer after : List ℕ) (used to a key level x n p q value : ℕ)
-    → length words ≡ 3 + 10 * used → length longer ≡ 3 + 10 * (used + 1) → at_of longer ≡ at_of words → p ≡ key_place used → q ≡ child_place used a → a < 8 → value ≡ cell_word (used + 1)
-    → ((i : ℕ) → i < 3 + 10 * (used + 1) → at_of after i ≡ at_of (slice_set (slice_set longer p key) q value) i) → used + 1 < to → ArePair sites x n key level
+pub linked : (sites : List Site) (words longer after : List ℕ) (used to a key level x n q value : ℕ)
+    → IsCellAdded words longer used key → q ≡ child_place used a → a < 8 → value ≡ cell_word (used + 1)
+    → ((i : ℕ) → i < word_count (used + 1) → at_of after i ≡ at_of (slice_set longer q value) i) → used + 1 < to → ArePair sites x n key level
     → StandsFor (site_at sites) (at_of after) (cell_word (used + 1)) (8 * key + a) (IsTaken (used + 1) to) (IsOneOf x n)
     → StandsFor (site_at sites) (at_of after) (cell_word used) key (IsTaken used to) (IsOneOf x n)
-linked sites words longer after used to a key level x n p q value len more same is_p is_q small is_value kept next pair sub =
-    let first : List ℕ = slice_set longer p key in
-    let key_now : at_of after (key_place used) ≡ key =
-    kept (key_place used) (omega arith) ∙ at_set_other first q (key_place used) value (λ e. omega arith) ∙ at_set_same longer p (key_place used) key (sym is_p) (omega arith) in
+linked sites words longer after used to a key level x n q value cell is_q small is_value kept next pair sub =
+    let key_now : at_of after (key_place used) ≡ key = kept (key_place used) (omega arith) ∙ at_set_other longer q (key_place used) value (λ e. omega arith) ∙ cell.keyed in
     let kid_now : at_of after (child_place used a) ≡ cell_word (used + 1) =
-    kept (child_place used a) (omega arith) ∙ at_set_same first q (child_place used a) value (sym is_q) (omega (arith, set_length longer p key)) ∙ is_value in
+    kept (child_place used a) (omega arith) ∙ at_set_same longer q (child_place used a) value (sym is_q) (omega (arith, cell.len)) ∙ is_value in
     let others : (j : ℕ) → j < 8 → j ≢ a → at_of after (child_place used j) ≡ 0 = λ j l h.
-    kept (child_place used j) (omega arith) ∙ at_set_other first q (child_place used j) value (λ e. h (omega arith))
-    ∙ at_set_other longer p (child_place used j) key (λ e. omega arith) ∙ blank_child words longer used j len same in
+    kept (child_place used j) (omega arith) ∙ at_set_other longer q (child_place used j) value (λ e. h (omega arith)) ∙ cell.empty j l in
     let part : StandsFor (site_at sites) (at_of after) (at_of after (child_place used a)) (8 * key + a) (IsTaken (used + 1) to) (IsOneOf x n) =
     subst (λ (y : ℕ). StandsFor (site_at sites) (at_of after) y (8 * key + a) (IsTaken (used + 1) to) (IsOneOf x n)) (sym kid_now) sub in
     stands_same (site_at sites) (at_of after) (cell_word used) key (λ c. (c ≡ used) ⊎ IsTaken (used + 1) to c) (IsTaken used to) (IsOneOf x n) (IsOneOf x n)
@@ -66,27 +75,23 @@ linked sites words longer after used to a key level x n p q value len more same 
     (link_stands (site_at sites) (at_of after) used key a (IsTaken (used + 1) to) (IsOneOf x n) key_now (pair_cube sites x n key level pair) small part others)
 
 -- the cell in which two bodies lie in different octants
-pub forked : (sites : List Site) (words longer : List ℕ) (used a b key level x n p q r v w : ℕ)
-    → length words ≡ 3 + 10 * used → length longer ≡ 3 + 10 * (used + 1) → at_of longer ≡ at_of words → p ≡ key_place used → q ≡ child_place used a → r ≡ child_place used b
-    → v ≡ body_word x → w ≡ body_word n → ArePair sites x n key level → a ≡ octant_of (site_at sites x) level → b ≡ octant_of (site_at sites n) level → a ≢ b
-    → StandsFor (site_at sites) (at_of (slice_set (slice_set (slice_set longer p key) q v) r w)) (cell_word used) key (IsTaken used (used + 1)) (IsOneOf x n)
-forked sites words longer used a b key level x n p q r v w len more same is_p is_q is_r is_v is_w pair is_a is_b apart =
-    let first : List ℕ = slice_set longer p key in
-    let second : List ℕ = slice_set first q v in
-    let last : List ℕ = slice_set second r w in
+pub forked : (sites : List Site) (words longer : List ℕ) (used a b key level x n q r v w : ℕ)
+    → IsCellAdded words longer used key → q ≡ child_place used a → r ≡ child_place used b → v ≡ body_word x → w ≡ body_word n → ArePair sites x n key level
+    → a ≡ octant_of (site_at sites x) level → b ≡ octant_of (site_at sites n) level → a ≢ b
+    → StandsFor (site_at sites) (at_of (slice_set (slice_set longer q v) r w)) (cell_word used) key (IsTaken used (used + 1)) (IsOneOf x n)
+forked sites words longer used a b key level x n q r v w cell is_q is_r is_v is_w pair is_a is_b apart =
+    let first : List ℕ = slice_set longer q v in
+    let last : List ℕ = slice_set first r w in
     let sa : a < 8 = omega (arith, is_a, octant-small (site_at sites x) level) in
     let sb : b < 8 = omega (arith, is_b, octant-small (site_at sites n) level) in
-    let len1 : length first ≡ length longer = set_length longer p key in
-    let len2 : length second ≡ length first = set_length first q v in
+    let len : length first ≡ word_count (used + 1) = set_length longer q v ∙ cell.len in
     let key_now : at_of last (key_place used) ≡ key =
-    at_set_other second r (key_place used) w (λ h. omega arith) ∙ at_set_other first q (key_place used) v (λ h. omega arith)
-    ∙ at_set_same longer p (key_place used) key (sym is_p) (omega arith) in
+    at_set_other first r (key_place used) w (λ h. omega arith) ∙ at_set_other longer q (key_place used) v (λ h. omega arith) ∙ cell.keyed in
     let a_now : at_of last (child_place used a) ≡ body_word x =
-    at_set_other second r (child_place used a) w (λ h. apart (omega arith)) ∙ at_set_same first q (child_place used a) v (sym is_q) (omega arith) ∙ is_v in
-    let b_now : at_of last (child_place used b) ≡ body_word n = at_set_same second r (child_place used b) w (sym is_r) (omega arith) ∙ is_w in
+    at_set_other first r (child_place used a) w (λ h. apart (omega arith)) ∙ at_set_same longer q (child_place used a) v (sym is_q) (omega (arith, cell.len)) ∙ is_v in
+    let b_now : at_of last (child_place used b) ≡ body_word n = at_set_same first r (child_place used b) w (sym is_r) (omega (arith, len)) ∙ is_w in
     let others : (j : ℕ) → j < 8 → j ≢ a → j ≢ b → at_of last (child_place used j) ≡ 0 = λ j l f g.
-    at_set_other second r (child_place used j) w (λ h. g (omega arith)) ∙ at_set_other first q (child_place used j) v (λ h. f (omega arith))
-    ∙ at_set_other longer p (child_place used j) key (λ h. omega arith) ∙ blank_child words longer used j len same in
+    at_set_other first r (child_place used j) w (λ h. g (omega arith)) ∙ at_set_other longer q (child_place used j) v (λ h. f (omega arith)) ∙ cell.empty j l in
     stands_same (site_at sites) (at_of last) (cell_word used) key (Only used) (IsTaken used (used + 1)) (IsOneOf x n) (IsOneOf x n)
     (λ c. ((λ e. (omega arith, omega arith)), (λ h. omega (arith, h.0, h.1))))
     (λ m. ((λ h. h), (λ h. h)))

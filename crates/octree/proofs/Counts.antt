@@ -3,12 +3,16 @@ use Rattle.std.proofs.Common.{ℕ, ◌+◌, ◌*◌, ◌<◌, ◌≤◌, ◌≡�
 use Rattle.octant_code.proofs.Keys.{pow8-mono}
 use Rattle.bh_model.proofs.Lists.{joined}
 use Rattle.bh_model.proofs.Trees.{keys-body, keys-cell, keys-empty}
-use Rattle.bh_model.specs.Trees.{Tree, cell_count, cell_keys_from}
+use Rattle.bh_model.specs.Trees.{Empty, Tree, cell_count, cell_keys_from}
 use Rattle.tree_rule.specs.Sound.{HereAs, IsReachedAs}
 use Rattle.tree_rule.specs.Words.{at_of, cell_word, cells_from, child_place, tree_from}
 use Rattle.tree_rule.proofs.Laws.{ACell, NoBody, OneBody, WordIs, cells-body, cells-cell, cells-empty, cells_once, cells_read, few_below, forget, tree-body, tree-cell, tree-empty, word_is}
 use Rattle.octree.specs.Stored.{IsStored, Stored, cells_of, tree_of}
-use Rattle.octree.proofs.Texts.{tree-zero}
+
+-- read to no depth every word is empty
+tree-zero : (at : ℕ → ℕ) (w : ℕ) → tree_from at 0 w ≡ Empty
+unfolding tree_from
+tree-zero at w = refl
 
 -- read to no depth no cell is read
 cells_at_end : (at : ℕ → ℕ) (below w : ℕ) → below ≡ 0 → cells_from at below w ≡ []

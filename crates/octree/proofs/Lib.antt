@@ -1,15 +1,15 @@
-pub mod Words
+pub mod Laws
+pub mod Reading
+mod Words
 mod ReadWords
 mod Locks
 mod Chains
-mod Descends
-mod Inserts
-pub mod Texts
+mod Descents
+mod Insertions
+mod Texts
 mod Counts
-pub mod Roomier
+mod Rooms
 mod WholeWords
 mod Builds
-mod Canonicals
-pub mod Reading
-pub mod Subtrees
-pub mod Laws
+mod CanonicalTrees
+mod Subtrees

@@ -9,7 +9,7 @@ use Rattle.tree_rule.proofs.Laws.{ACell, NoBody, OneBody, WordIs, forget, tree-b
 use Rattle.tree_rule.specs.Sound.{BelowAs, HereAs, IsReachedAs}
 use Rattle.tree_rule.specs.Words.{HasBody, HasCell, at_of, body_word, cell_word, child_place, tree_from}
 use Rattle.octree.specs.Node.{IsNodeOf}
-use Rattle.octree.specs.Stored.{Stored, IsStored, root_word, tree_of}
+use Rattle.octree.specs.Stored.{IsStored, Stored, root_word, tree_of, tree_of_word}
 use Rattle.octree.specs.Reading.{IsReadAt, tree_at, tree_below, word_of}
 use Rattle.octree.specs.declared.node.CellNo.{CellNo}
 use Rattle.octree.specs.declared.node.Node.{Node}

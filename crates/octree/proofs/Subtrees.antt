@@ -12,8 +12,8 @@ use Rattle.bh_model.specs.Trees.{Tree, cell_of, height, order}
 use Rattle.tree_rule.proofs.Laws.{ACell, Deeper, IsKeyBelow, NoBody, OneBody, Same, WordIs, child_in_child, comparable, forget, tree-body, tree-cell, tree-empty, word_is}
 use Rattle.tree_rule.specs.Sound.{BelowAs, HereAs, IsReachedAs}
 use Rattle.tree_rule.specs.Words.{Below, HasBody, HasCell, Here, IsReached, at_of, body_word, cell_word, child_place, tree_from}
-use Rattle.octree.specs.Stored.{Stored, IsStored, root_word, tree_of}
-use Rattle.octree.specs.Spot.{IsCellUnder, IsSpot, IsUnderChild, Spot, cell_at, child_under, tree_of_word, tree_under}
+use Rattle.octree.specs.Stored.{IsStored, Stored, root_word, tree_of, tree_of_word}
+use Rattle.octree.specs.Spot.{IsCellUnder, IsSpot, IsUnderChild, Spot, cell_at, cell_number, child_under, tree_under}
 use Rattle.octree.specs.Subtree.{HasParts, IsBodyAt, IsCellAt, IsChildOf, IsNothingAt}
 use Rattle.octree.proofs.ReadWords.{word_small}
 
@@ -256,11 +256,11 @@ cell_parts : (s : Spot) (c : ℕ) → IsSpot s → s.word ≡ cell_word c → Ha
 unfolding cell_at IsCellUnder IsUnderChild
 cell_parts s c r e =
     let at : ℕ → ℕ = at_of s.octree.words in
-    let number : s.word / 2 - 1 ≡ c = omega arith in
-    let child : (k d : ℕ) → IsReached at (at (child_place (s.word / 2 - 1) k)) (cell_word d) → IsReached at (at (child_place c k)) (cell_word d) =
+    let number : cell_number s.word ≡ c = omega arith in
+    let child : (k d : ℕ) → IsReached at (at (child_place (cell_number s.word) k)) (cell_word d) → IsReached at (at (child_place c k)) (cell_word d) =
     λ k d h. subst (λ (x : ℕ). IsReached at (at (child_place x k)) (cell_word d)) number h in
     record {
-      itself = Here (cell_word (s.word / 2 - 1)) (ap cell_word number ∙ sym e);
+      itself = Here (cell_word (cell_number s.word)) (ap cell_word number ∙ sym e);
       below = λ k d l h. subst (λ (w : ℕ). IsReached at w (cell_word d)) (sym e) (below_cell at c k (cell_word d) l (child k d h));
       nothing_else = λ d h. elim (under_word at c (cell_word d) (subst (λ (w : ℕ). IsReached at w (cell_word d)) e h)) [
         | inl f ↦ inl (omega (arith, f))
@@ -273,7 +273,7 @@ cell_parts s c r e =
 cell_at_itself : (s : Spot) (c : ℕ) → IsSpot s → s.word ≡ cell_word c → IsCellAt s s
 unfolding cell_at child_under tree_under
 cell_at_itself s c r e =
-    let number : s.word / 2 - 1 ≡ c = omega arith in
+    let number : cell_number s.word ≡ c = omega arith in
     let o : Stored = s.octree in
     let one = one_of_more (r.stored.sound.more_bodies r.key c (cell_read o s.word c e r)) in
     record {
@@ -295,8 +295,8 @@ top_cell s c r e = subst (λ (w : ℕ). IsCellAt s (spot_at s.octree w)) e (cell
 pub child_is_child : (o : Stored) (c k w : ℕ) → w ≡ at_of o.words (child_place c k) → IsChildOf (spot_at o (cell_word c)) k (spot_at o w)
 unfolding child_under tree_under IsCellUnder IsUnderChild
 child_is_child o c k w e =
-    let number : cell_word c / 2 - 1 ≡ c = omega arith in
-    let word : w ≡ at_of o.words (child_place (cell_word c / 2 - 1) k) = e ∙ ap (λ d. at_of o.words (child_place d k)) (sym number) in
+    let number : cell_number (cell_word c) ≡ c = omega arith in
+    let word : w ≡ at_of o.words (child_place (cell_number (cell_word c)) k) = e ∙ ap (λ d. at_of o.words (child_place d k)) (sym number) in
     record {
       tree = ap (tree_of_word o) word;
       octree = refl;
@@ -306,7 +306,7 @@ child_is_child o c k w e =
 -- the number of a cell
 pub spot_number : (o : Stored) (c : ℕ) → c ≡ cell_at (spot_at o (cell_word c))
 unfolding cell_at
-spot_number o c = let e : c ≡ cell_word c / 2 - 1 = omega arith in e
+spot_number o c = let e : c ≡ cell_number (cell_word c) = omega arith in e
 
 -- what is known of the whole octree as a spot
 pub record IsWhole (o : Stored) (s : Spot) : Type 0 where

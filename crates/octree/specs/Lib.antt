@@ -1,6 +1,6 @@
 pub mod Stored
 pub mod Node
 pub mod Chain
-pub mod Reading
 pub mod Spot
+pub mod Reading
 pub mod Subtree

@@ -1,12 +1,11 @@
 -- The nodes of an octree as they are read on the way down, and the trees below them.
-use Rattle.std.specs.Prelude.{ℕ, ◌-◌, ◌^◌, ◌≤◌, ◌≡◌, List, length}
-use Rattle.octant_code.specs.Space.{Site}
-use Rattle.octant_code.specs.Points.{site_at}
-use Rattle.bh_model.specs.Bodies.{numbers}
-use Rattle.bh_model.specs.Trees.{Tree, octree}
+use Rattle.std.specs.Prelude.{ℕ, ◌-◌, ◌^◌, ◌≤◌}
+use Rattle.bh_model.specs.Trees.{Tree}
 use Rattle.tree_rule.specs.Words.{at_of, body_word, cell_word, tree_from}
 use Rattle.tree_rule.specs.Sound.{IsReachedAs}
-use Rattle.octree.specs.Stored.{Stored, IsCanonical, root_word, tree_of}
+use Rattle.octree.specs.Stored.{Stored, root_word}
+pub use Rattle.octree.specs.Stored.{IsOctreeOf}
+pub use Rattle.octree.specs.Spot.{tree_below}
 use Rattle.octree.specs.declared.node.Node.{Node}
 use Rattle.octree.specs.declared.node.Node.TheVariants.{Empty, Body, Cell}
 
@@ -20,10 +19,6 @@ word_of (Cell c) = cell_word c.0
 abbrev pub tree_at : Stored → ℕ → Node → Tree
 tree_at o below node = tree_from (at_of o.words) below (word_of node)
 
--- the tree of a cell that can be reached
-abbrev pub tree_below : Stored → ℕ → Tree
-tree_below o c = tree_from (at_of o.words) 22 (cell_word c)
-
 -- A node is read on the way down with the key of its cube, and with so many words to be read from its own on: 22 for the root.
 pub record IsReadAt (o : Stored) (below key : ℕ) (node : Node) : Type 0 where
   pub read : IsReachedAs (at_of o.words) (root_word o) o.base key (word_of node)
@@ -34,9 +29,3 @@ pub record IsReadAt (o : Stored) (below key : ℕ) (node : Node) : Type 0 where
 pub record IsRead (o : Stored) (below : ℕ) (node : Node) : Type 0 where
   pub key : ℕ
   pub at_key : IsReadAt o below key node
-
--- The octree is the canonical octree of all points of a list, each body by its point's number.
-pub record IsOctreeOf (sites : List Site) (o : Stored) : Type 0 where
-  pub base : o.base ≡ 1
-  pub canonical : IsCanonical sites o
-  pub tree : tree_of o ≡ octree (site_at sites) (numbers (length sites))

@@ -3,7 +3,8 @@ use Rattle.std.specs.Prelude.{ℕ, ◌+◌, ◌-◌, ◌*◌, ◌/◌, ◌^◌, 
 use Rattle.octant_code.specs.Space.{Site}
 use Rattle.octant_code.specs.declared.limits.TheConstants.{LEVELS, MOST_BODIES}
 use Rattle.octant_code.specs.Points.{site_at}
-use Rattle.bh_model.specs.Trees.{Tree}
+use Rattle.bh_model.specs.Bodies.{numbers}
+use Rattle.bh_model.specs.Trees.{Tree, octree}
 use Rattle.tree_rule.specs.declared.words.TheConstants.{CELLS_OF_ONE, CELL_WORDS, FIRST_PLACE, MOST_CELLS}
 use Rattle.tree_rule.specs.Words.{at_of, cells_from, key_place, tree_from, HasCell, HasBody}
 use Rattle.tree_rule.specs.Locks.{AreUnlocked}
@@ -34,13 +35,17 @@ spare_of o = o.held - o.used
 abbrev pub root_word : Stored → ℕ
 root_word o = at_of o.words 0
 
+-- the tree below a word
+abbrev pub tree_of_word : Stored → ℕ → Tree
+tree_of_word o word = tree_from (at_of o.words) 22 word
+
 -- the tree of an octree
 abbrev pub tree_of : Stored → Tree
-tree_of o = tree_from (at_of o.words) 22 (at_of o.words 0)
+tree_of o = tree_of_word o (root_word o)
 
 -- the cells of an octree that can be reached, each before those below it
 abbrev pub cells_of : Stored → List ℕ
-cells_of o = cells_from (at_of o.words) 22 (at_of o.words 0)
+cells_of o = cells_from (at_of o.words) 22 (root_word o)
 
 -- the words stand for the bodies that are read in them, at the sites of a list
 abbrev pub StandsWell : List Site → List ℕ → ℕ → Type 0
@@ -93,6 +98,12 @@ all_used o = record { words = all_words o; base = o.base; level = o.level; used 
 pub record IsCanonical (sites : List Site) (o : Stored) : Type 0 where
   pub under : BodiesUnder (site_at sites) (at_of o.words) (at_of o.words 0) o.base
   pub bodies_in : (n : ℕ) → HasBody o.words n → n < length sites
+
+-- The octree is the canonical octree of all points of a list, each body by its point's number.
+pub record IsOctreeOf (sites : List Site) (o : Stored) : Type 0 where
+  pub base : o.base ≡ 1
+  pub canonical : IsCanonical sites o
+  pub tree : tree_of o ≡ octree (site_at sites) (numbers (length sites))
 
 -- an octree after an insertion of body `n`: its bodies, and what stays
 pub record IsInserted (n : ℕ) (before after : Stored) : Type 0 where

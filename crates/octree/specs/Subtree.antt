@@ -1,12 +1,12 @@
 -- What stands at the top of a subtree, and its children.
 use Rattle.std.specs.Prelude.{ℕ, ◌<◌, ◌≡◌, ◌⊎◌, ◌↔◌}
+use Rattle.octant_code.specs.declared.limits.TheConstants.{MOST_BODIES}
 use Rattle.bh_model.specs.Bodies.{IsIn}
 use Rattle.bh_model.specs.Trees.{Tree, Empty, Body as OneBody, cell_of, order}
 use Rattle.tree_rule.specs.Words.{HasBody, HasCell}
-use Rattle.octree.specs.Spot.{IsCellUnder, IsUnderChild, Spot, cell_at, child_under, tree_under}
+use Rattle.octree.specs.Spot.{IsCellUnder, IsUnderChild, Spot, cell_at, child_under, tree_below, tree_under}
 use Rattle.octree.specs.declared.subtree.Top.{Top}
 use Rattle.octree.specs.declared.subtree.Top.TheVariants.{Nothing, Body, Cell}
-use Rattle.octree.specs.Reading.{tree_below}
 
 -- the subtree is empty
 pub record IsNothingAt (s : Spot) : Type 0 where
@@ -18,7 +18,7 @@ pub record IsBodyAt (s : Spot) (n : ℕ) : Type 0 where
   pub tree : tree_under s ≡ OneBody n
   pub bare : (d : ℕ) → IsCellUnder s d → ⊥
   pub reached : HasBody s.octree.words n
-  pub small : n < 65536
+  pub small : n < MOST_BODIES
 
 -- a cell stands below one child of a cell
 pub record IsUnderSome (cell : Spot) (d : ℕ) : Type 0 where

@@ -6,7 +6,7 @@ ghost use Rattle.tree_rule.specs.Words.{at_of, cell_word};
 ghost use Rattle.tree_rule.specs.Flat.{StandsFor};
 ghost use Rattle.octree.specs.Stored.{cell_count_of, word_count};
 ghost use Rattle.tree_rule.specs.Locks.{AreUnlocked};
-ghost use Rattle.octree.specs.Chain.{ArePair, IsOneOf, IsTaken};
+ghost use Rattle.octree.specs.Chain.{ArePair, IsCellAdded, IsOneOf, IsTaken};
 
 use octant_code::{LEVELS, Points, octant};
 use tree_rule::{
@@ -31,18 +31,18 @@ pub fn cells_of_words(count: usize) -> u32
     ((count - FIRST_PLACE) / CELL_WORDS) as u32
 }
 
-/// Appends the words of one more cell, which are 0. It takes no memory.
+/// Appends the words of one more cell, which has a key and names nothing. It takes no memory.
 #[inline]
-fn add_cell(words: &mut Vec<u64>, cell: u32)
+fn add_cell(words: &mut Vec<u64>, cell: u32, key: u64)
     requires few { cell < MOST_CELLS }
     requires len { length words.old.items ≡ word_count cell }
     requires room { word_count (cell + 1) ≤ vec_capacity words.old }
-    ensures same { at_of words.new.items ≡ at_of words.old.items }
-    ensures len { length words.new.items ≡ word_count (cell + 1) }
+    requires unlocked { AreUnlocked words.old.items cell }
+    ensures added { IsCellAdded words.old.items words.new.items cell key }
     ensures room { vec_capacity words.old ≤ vec_capacity words.new }
 {
     match words.resize(words_of_cells(cell + 1), 0) {
-        Ok(()) => {}
+        Ok(()) => words[place_of_key(cell)] = key,
         Err(_) => unreachable!(),
     }
 }
@@ -76,8 +76,7 @@ pub fn part_two(words: &mut Vec<u64>, used: u32, points: &Points, x: u32, n: u32
     let p = points.at(n);
     let a = octant(q, cube.level);
     let b = octant(p, cube.level);
-    add_cell(words, used);
-    words[place_of_key(used)] = cube.key;
+    add_cell(words, used, cube.key);
     if a == b {
         words[place_of_child(used, b)] = word_of_cell(used + 1);
         let inner = Cube {

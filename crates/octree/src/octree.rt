@@ -58,8 +58,7 @@ impl Octree {
     ghost use Rattle.tree_rule.specs.Words.{at_of, child_place, HasBody, HasCell};
     ghost use Rattle.tree_rule.specs.Standing.{WordsNameExactly};
     ghost use Rattle.octree.specs.Node.{IsNodeOf};
-    ghost use Rattle.octree.specs.Stored.{AreOctreeWords, IsBlankFrom, IsCanonical, IsInserted, IsRoomier, IsStored, all_used, all_words, cells_of, full_tree, root_word, spare_of, tree_of, tree_with_used, word_count};
-    ghost use Rattle.octree.specs.Reading.{IsOctreeOf};
+    ghost use Rattle.octree.specs.Stored.{AreOctreeWords, IsBlankFrom, IsCanonical, IsInserted, IsOctreeOf, IsRoomier, IsStored, all_used, all_words, cells_of, full_tree, root_word, spare_of, tree_of, tree_with_used, word_count};
     ghost use Rattle.octree.specs.Spot.{IsCellUnder, tree_under};
     ghost use Rattle.bh_model.specs.Trees.{height};
 
@@ -295,7 +294,7 @@ impl Octree {
         ensures numbers { result ≡ length (cells_of self.now) }
         ensures tree { result ≡ cell_count (tree_of self.now) }
     {
-        count_cells(&self.whole(), 0)
+        count_cells(self.whole(), 0)
     }
 
     /// The greatest level of a word that names a body, counted from the root's word, which is of level
@@ -303,7 +302,7 @@ impl Octree {
     pub fn depth(&self) -> u32
         ensures { result ≡ depth (tree_of self.now) }
     {
-        deepest_body(&self.whole(), 0)
+        deepest_body(self.whole(), 0)
     }
 
     /// The bodies in tree order: those of child 0 first, then those of child 1, and so on.
@@ -311,7 +310,7 @@ impl Octree {
         ensures { IfOk result (λ v. v.items ≡ order (tree_of self.now)) }
     {
         let mut bodies = Vec::new(alloc);
-        push_order(&self.whole(), &mut bodies)?;
+        push_order(self.whole(), &mut bodies)?;
         Ok(bodies)
     }
 

@@ -9,8 +9,8 @@ use octant_code::OutOfMemory;
 
 #[tactic(auto, using(crate::proofs::Laws::child_height, bh_model::proofs::Folds::order_steps))]
 /// Appends the bodies of a subtree.
-pub fn push_order(at: &Subtree, bodies: &mut Vec<u32>) -> Result<(), OutOfMemory>
-    ensures { OnOk result (bodies.new.items ≡ bodies.old.items ++ order (tree_under at.now)) }
+pub fn push_order(at: Subtree, bodies: &mut Vec<u32>) -> Result<(), OutOfMemory>
+    ensures { OnOk result (bodies.new.items ≡ bodies.old.items ++ order (tree_under at.entry)) }
 {
     match at.top() {
         Top::Nothing => Ok(()),
@@ -20,7 +20,7 @@ pub fn push_order(at: &Subtree, bodies: &mut Vec<u32>) -> Result<(), OutOfMemory
         },
         Top::Cell(cell) => {
             for k in 0..8 {
-                push_order(&cell.child(k), bodies)?;
+                push_order(cell.child(k), bodies)?;
             }
             Ok(())
         }

@@ -2,7 +2,7 @@ use Rattle.std.proofs.Common.{arith, ◌≡◌, ◌+◌, ◌<◌, ◌^◌, ℕ, 
 use Rattle.std.proofs.lemmas.List.{get_or_read}
 use Rattle.octant_code.specs.Space.{key_of, octant_of}
 use Rattle.octant_code.specs.Points.{site_at}
-use Rattle.octree.proofs.Descends.{place_read, stepped}
+use Rattle.octree.proofs.Descents.{place_read, stepped}
 use Rattle.tree_rule.specs.Flat.{IsPlaceOf}
 use Rattle.tree_rule.specs.Words.{HasCell, at_of, child_place}
 use Rattle.octree.proofs.descend.find_place.Goals as goal

@@ -1,5 +1,5 @@
 use Rattle.std.proofs.Common.{subst}
-use Rattle.octree.proofs.Canonicals.{tree_is}
+use Rattle.octree.proofs.CanonicalTrees.{tree_is}
 use Rattle.octree.specs.Stored.{IsStored}
 use Rattle.octree.proofs.octree.Octree.canonical_tree.Goals as goal
 

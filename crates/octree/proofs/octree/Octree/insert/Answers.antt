@@ -1,7 +1,7 @@
 use Rattle.std.proofs.Common.{arith, ◌≡◌, ◌+◌, ◌≤◌, ◌∙◌, ℕ, Option, ap, slice_set, sym, subst}
 use Rattle.octant_code.specs.Space.{key_of}
 use Rattle.octant_code.specs.Points.{site_at}
-use Rattle.octree.proofs.Inserts.{CanInsert, IsDone, body_case, can_insert, empty_case, parted_case, stands_now, with_words}
+use Rattle.octree.proofs.Insertions.{CanInsert, IsDone, body_case, can_insert, empty_case, parted_case, stands_now, with_words}
 use Rattle.octree.proofs.ReadWords.{word_small}
 use Rattle.octree.specs.Chain.{IsOneOf, IsTaken, NamesNoCell}
 use Rattle.octree.specs.Stored.{Stored}

@@ -1,5 +1,5 @@
 use Rattle.std.proofs.Common.{subst}
-use Rattle.octree.proofs.Canonicals.{names_exactly}
+use Rattle.octree.proofs.CanonicalTrees.{names_exactly}
 use Rattle.octree.specs.Stored.{IsStored}
 use Rattle.octree.proofs.octree.Octree.names_exactly.Goals as goal
 
