@@ -12,4 +12,5 @@ pub mod AllBodies
 pub mod Standing
 pub mod Terms
 pub mod PullBounds
+pub mod PullSums
 pub mod ZoneCuts

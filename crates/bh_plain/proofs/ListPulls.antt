@@ -19,6 +19,7 @@ use Rattle.bh_model.proofs.Cells.{in_octant-once, in_octant-under, member_of_all
 use Rattle.bh_model.proofs.Lists.{in_numbers, numbers_once}
 use Rattle.bh_model.proofs.Orders.{from_list}
 use Rattle.bh_plain.proofs.ListMoments.{bodies_in_cube, part_fits, sum_ones, sum_products, total_within}
+use Rattle.bh_model.proofs.PullSums.{pull_step, pull_upto, sum_scaled, upto_small}
 use Rattle.bh_model.proofs.PullBounds.{points_apart, pull_fits, pull_small, pull-opened, pull-whole, small_add, small_more, small_none}
 use Rattle.bh_model.proofs.Splits.{empty_tree, octant_trees, octants_within, one_tree, split_tree}
 use Rattle.bh_model.proofs.Standing.{count_numbers, count_own, is_own, stands_of_list, sum_octants, total_own_other}
@@ -26,18 +27,9 @@ use Rattle.bh_model.proofs.Totals.{sum_upto, sum_upto-le, sum_upto-term, total-o
 
 -- ---- the pull of each kind of list
 
--- the sum of the first k pulls
-abbrev pub pull_upto : (ℕ → Pull) → ℕ → Pull
-pull_upto f zero = no_pull
-pull_upto f (suc k) = add_pull (pull_upto f k) (f k)
-
 -- the pulls of the octants of a list at a level
 abbrev pub octant_pulls : PullLaw → Matter → ℕ → ℕ → ℕ → List ℕ → ℕ → Pull
 octant_pulls law m n level key bodies k = pull_from law m n (21 - (level + 1)) (8 * key + k) (octant_trees m.site level bodies k)
-
--- one more pull is added
-pub pull_step : (f : ℕ → Pull) (k : ℕ) (sum more : Pull) → sum ≡ pull_upto f k → more ≡ f k → add_pull sum more ≡ pull_upto f (k + 1)
-pull_step f k sum more before one = ap (λ y. add_pull y more) before ∙ ap (λ y. add_pull (pull_upto f k) y) one ∙ ap (pull_upto f) (sym (add-one k))
 
 -- the pull of no body, and of more than one at the deepest level
 pub pull_of_empty : (law : PullLaw) (m : Matter) (n level key : ℕ) (bodies : List ℕ) → length bodies ≢ 1 → (length bodies ≡ 0) ⊎ (level ≡ 21)
@@ -169,18 +161,6 @@ part_small law sites masses n level key bodies own l p =
     small_more _ _ _ _ _ (mul-le-mul_left law.g (total_within m.mass site (21 - level) level bodies))
     (omega (arith, total_own_other n tree, total_within (λ j. 1) site (21 - level) level bodies))
     (pull_small law m (length sites) n (points_apart masses sites n p.rule own) (21 - level) key tree stands once)
-
--- sums of small pulls
-upto_small : (f : ℕ → Pull) (b c : ℕ → ℕ) (n : ℕ) → ((k : ℕ) → k < n → IsSmall (b k) (c k) (f k)) → IsSmall (sum_upto b n) (sum_upto c n) (pull_upto f n)
-unfolding sum_upto
-upto_small f b c zero h = small_none 0 0
-upto_small f b c (suc n) h = small_add _ _ _ _ _ _ (upto_small f b c n (λ k l. h k (omega arith))) (h n (omega arith))
-
--- a constant times a sum
-sum_scaled : (g : ℕ) (f : ℕ → ℕ) (n : ℕ) → sum_upto (λ k. g * f k) n ≡ g * sum_upto f n
-unfolding sum_upto
-sum_scaled g f zero = omega arith
-sum_scaled g f (suc n) = omega (arith, sum_scaled g f n)
 
 -- the sums of the octants' pulls, and each of them, are small
 octant_small : (law : PullLaw) (sites : List Site) (masses : List ℕ) (n level key : ℕ) (bodies : List ℕ) → n < length sites → level < 21 → IsPart sites masses level key bodies

@@ -13,11 +13,12 @@ use Rattle.bh_model.specs.Moments.{Matter, centre, mass_of, total}
 use Rattle.bh_model.specs.Pulls.{PullLaw, add_pull, is_whole, pull_from, sum_of_eight, term}
 use Rattle.bh_model.specs.declared.pull.Pull.{Pull}
 use Rattle.bh_model.proofs.PullBounds.{StandsApart, pull-empty, pull-opened, pull-other, pull-own, pull-whole}
+use Rattle.bh_model.proofs.Terms.{same_pull}
 use Rattle.bh_model.specs.Standing.{Stands}
 use Rattle.force_walk.specs.Flat.{IsLaid, body_node, cell_node, closed, flat, is_opened, walked}
 use Rattle.force_walk.specs.declared.node.WalkNode.{WalkNode}
-use Rattle.force_walk.proofs.Opens.{body_opened, cell_opened}
-use Rattle.force_walk.proofs.Walked.{add_none, same_pull, walked_opened, walked_past, walked_taken}
+use Rattle.force_walk.proofs.Openings.{body_opened, cell_opened}
+use Rattle.force_walk.proofs.Walks.{add_none, walked_opened, walked_past, walked_taken}
 
 -- ---- the table of each kind of tree
 

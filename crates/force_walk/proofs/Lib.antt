@@ -1,9 +1,10 @@
 pub mod Distances
-pub mod Opens
-pub mod Walked
+pub mod Openings
+pub mod Walks
 pub mod Flats
-pub mod Lays
+pub mod Cubes
 pub mod Scenes
-pub mod Placing
-pub mod Belows
+pub mod Layings
+pub mod SubtreePulls
+pub mod Placements
 pub mod Quotients

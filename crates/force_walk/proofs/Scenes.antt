@@ -1,9 +1,9 @@
 -- What the flat table of the canonical octree of a scene's bodies is good for.
-use Rattle.std.proofs.Common.{ℕ, ◌-◌, ◌*◌, ◌^◌, ◌<◌, ◌≡◌, List, [], length, All, sym, ap, ◌∙◌, subst, arith, inl, inr, append-nil, sum_by}
+use Rattle.std.proofs.Common.{ℕ, ◌-◌, ◌*◌, ◌^◌, ◌<◌, ◌≡◌, List, [], length, sym, ap, ◌∙◌, subst, arith, inl, inr, append-nil, sum_by}
 use Rattle.std.proofs.lemmas.Bool.{cases_lt}
 use Rattle.std.proofs.lemmas.List.{length-map}
 use Rattle.octant_code.specs.Points.{ArePoints, site_at}
-use Rattle.octant_code.specs.Space.{IsInCube, Site}
+use Rattle.octant_code.specs.Space.{Site}
 use Rattle.octant_code.proofs.Distances.{squared_distance-positive}
 use Rattle.bh_model.specs.Bodies.{numbers}
 use Rattle.bh_model.specs.Moments.{Matter, mass_of, total}
@@ -18,11 +18,12 @@ use Rattle.octree.specs.Reading.{IsOctreeOf}
 use Rattle.octree.specs.Stored.{Stored, tree_of}
 use Rattle.scene_file.specs.Bodies.{AreBodies, nobody, sites_of, total_mass}
 use Rattle.scene_file.specs.declared.bodies.Body.{Body}
-use Rattle.force_walk.specs.Flat.{IsLaid, flat, walked}
+use Rattle.force_walk.specs.Cubes.{IsTreeOfCube}
+use Rattle.force_walk.specs.Flat.{flat, walked}
 use Rattle.force_walk.specs.Walks.{IsPullAmong}
 use Rattle.force_walk.specs.declared.node.WalkNode.{WalkNode}
-use Rattle.force_walk.proofs.Flats.{flat_laid, flat_short, walked_flat}
-use Rattle.force_walk.proofs.Walked.{add_to_none, walked_end}
+use Rattle.force_walk.proofs.Flats.{walked_flat}
+use Rattle.force_walk.proofs.Walks.{add_to_none, walked_end}
 
 -- the bodies of a scene with points in the cube, and the words of their canonical octree
 pub record IsScene (bodies : List Body) (o : Stored) : Type 0 where
@@ -68,15 +69,16 @@ bodies_apart bodies n rule within =
           ]);
     }
 
--- each node of the table can be walked, and there are not too many
-pub scene_laid : (bodies : List Body) (o : Stored) → IsScene bodies o → All IsLaid (flat (matter_of bodies) 21 1 (tree_of o))
-scene_laid bodies o scene =
-    flat_laid (matter_of bodies) (length bodies) (λ n l. scene.rule.massive n nobody l) 21 1 (tree_of o) (scene_stands bodies o scene)
-    (omega (arith, scene_mass bodies o scene, scene.rule.total)) (omega arith)
-
-pub scene_few : (bodies : List Body) (o : Stored) → IsScene bodies o → length (flat (matter_of bodies) 21 1 (tree_of o)) < 2 ^ 32 - 1
-scene_few bodies o scene =
-    omega (arith, flat_short (matter_of bodies) (length bodies) 21 1 (tree_of o) (scene_stands bodies o scene), scene_count bodies o scene, scene.rule.few)
+-- the tree is that of the whole cube
+pub scene_cube : (bodies : List Body) (o : Stored) → IsScene bodies o → IsTreeOfCube (matter_of bodies) (length bodies) 21 1 (tree_of o)
+scene_cube bodies o scene = record {
+  stands = scene_stands bodies o scene;
+  shallow = omega arith;
+  room = omega arith;
+  heavy = λ n l. scene.rule.massive n nobody l;
+  light = omega (arith, scene_mass bodies o scene, scene.rule.total);
+  few = omega (arith, scene_count bodies o scene, scene.rule.few);
+}
 
 -- a body's walk over the table is its pull
 pub scene_walk : (law : PullLaw) (bodies : List Body) (o : Stored) (n : ℕ) → IsScene bodies o → n < length bodies

@@ -3,10 +3,8 @@ use Rattle.std.specs.Prelude.{◌<◌, ◌≡◌, length}
 use Rattle.octant_code.specs.Space.{key_of}
 use Rattle.bh_model.specs.Moments.{Matter}
 use Rattle.bh_model.specs.Pulls.{IsPullLaw}
-use Rattle.mass_moments.specs.Kept.{HaveMatter, matter_of}
-use Rattle.octree.specs.Reading.{IsOctreeOf}
-use Rattle.octree.specs.Stored.{IsStored}
-use Rattle.scene_file.specs.Bodies.{AreBodies, sites_of}
+use Rattle.mass_moments.specs.Kept.{matter_of}
+use Rattle.scene_file.specs.Bodies.{AreBodies}
 use Rattle.force_walk.specs.Flat.{AreLeast}
 use Rattle.force_walk.specs.declared.view.View.{View}
 
@@ -14,11 +12,8 @@ use Rattle.force_walk.specs.declared.view.View.{View}
 abbrev pub seen : View → Matter
 seen v = matter_of v.bodies.now
 
--- the octree and the moments are the bodies', and the body is one of them
+-- the body is one of a scene's
 pub record IsView (v : View) : Type 0 where
-  pub octree : IsOctreeOf (sites_of v.bodies.now) v.tree.now
-  pub moments : HaveMatter v.tree.now (seen v) v.moments.now
-  pub stored : IsStored v.tree.now
   pub bodies : AreBodies v.bodies.now
   pub rule : IsPullLaw v.law.now
   pub least : AreLeast v.law.now v.least.now

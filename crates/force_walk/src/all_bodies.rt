@@ -13,7 +13,7 @@ ghost use Rattle.scene_file.specs.Bodies.{sites_of};
 use crate::lay::flat_table;
 use crate::least::{SIDES, least_distances};
 use crate::node::WalkNode;
-use crate::walk::{no_pull, walk};
+use crate::walk::walk;
 use bh_model::{Law, Pull};
 use mass_moments::Moments;
 use octant_code::OutOfMemory;
@@ -42,7 +42,7 @@ pub fn pulls<R>(
 {
     let nodes = flat_table(alloc, tree, moments, bodies)?;
     let least = least_distances(law);
-    let Ok(mut list) = vec![in alloc; no_pull(); bodies.len() as usize] else {
+    let Ok(mut list) = vec![in alloc; Pull::none(); bodies.len() as usize] else {
         return Err(OutOfMemory);
     };
     for zone in zones {

@@ -1,16 +1,18 @@
 //! The flat table is laid.
 
-ghost use Rattle.std.specs.Prelude.{◌≡◌, ◌≤◌, ◌<◌, ◌+◌, ◌-◌, ◌^◌, ◌∷◌, ◌++◌, [], All, IfOk, OnOk, length, slice_index_or, slice_set};
-ghost use Rattle.force_walk.specs.Flat.{IsLaid, body_node, flat, kept_node, no_node};
+ghost use Rattle.std.specs.Prelude.{◌≡◌, ◌<◌, ◌-◌, ◌^◌, ◌∷◌, ◌++◌, [], IfOk, OnOk, length, slice_index_or, slice_set};
+ghost use Rattle.force_walk.specs.Cubes.{IsTreeOfCube};
+ghost use Rattle.force_walk.specs.Flat.{body_node, flat, kept_node, no_node};
 ghost use Rattle.mass_moments.specs.Kept.{HaveMatter, matter_of, moment_at};
-ghost use Rattle.octree.specs.Reading.{IsOctreeOf, IsReadAt, tree_at};
-ghost use Rattle.octree.specs.Stored.{IsStored, tree_of};
+ghost use Rattle.octree.specs.Reading.{IsOctreeOf};
+ghost use Rattle.octree.specs.Spot.{tree_under};
+ghost use Rattle.octree.specs.Stored.{tree_of};
 ghost use Rattle.scene_file.specs.Bodies.{sites_of};
 
 use crate::node::WalkNode;
 use mass_moments::Moments;
 use octant_code::OutOfMemory;
-use octree::{CellNo, Node, Octree};
+use octree::{CellNo, Octree, Subtree, Top};
 use scene_file::Bodies;
 use std::alloc::Global;
 
@@ -64,44 +66,31 @@ fn close(nodes: &mut Vec<WalkNode>, at: usize)
     nodes[at].skip = skip;
 }
 
-/// Appends the nodes of the tree of a node that is read with a key, and with so many words from its
-/// own on: 22 for the root.
+/// Appends the nodes of a subtree, whose cube has side `2^down` and a key.
+#[tactic(auto, using(octree::proofs::Laws::child_height))]
 fn lay(
-    tree: &Octree,
+    at: &Subtree,
     moments: &Moments,
     bodies: &Bodies,
-    node: Node,
-    below: u32,
+    down: u32,
     key: u64,
     nodes: &mut Vec<WalkNode>,
 ) -> Result<(), OutOfMemory>
-    requires stored { IsStored tree.now }
-    requires octree { IsOctreeOf (sites_of bodies.now) tree.now }
-    requires moments { HaveMatter tree.now (matter_of bodies.now) moments.now }
-    requires read { IsReadAt tree.now below key node }
-    requires laid { All IsLaid (flat (matter_of bodies.now) (below - 1) key (tree_at tree.now below node)) }
-    requires few { length (flat (matter_of bodies.now) (below - 1) key (tree_at tree.now below node)) < 2 ^ 32 }
-    ensures { OnOk result (nodes.new.items ≡ nodes.old.items ++ flat (matter_of bodies.now) (below - 1) key (tree_at tree.now below node)) }
+    requires cube { IsTreeOfCube (matter_of bodies.now) (length bodies.now) down key (tree_under at.now) }
+    requires moments { HaveMatter at.now.octree (matter_of bodies.now) moments.now }
+    ensures { OnOk result (nodes.new.items ≡ nodes.old.items ++ flat (matter_of bodies.now) down key (tree_under at.now)) }
 {
-    match node {
-        Node::Empty => Ok(()),
-        Node::Body(n) => push(nodes, node_of_body(bodies, n)),
-        Node::Cell(c) => {
-            let at = nodes.len();
-            push(nodes, node_of_cell(moments, c, below - 1, key))?;
+    match at.top() {
+        Top::Nothing => Ok(()),
+        Top::Body(n) => push(nodes, node_of_body(bodies, n)),
+        Top::Cell(cell) => {
+            let own = nodes.len();
+            push(nodes, node_of_cell(moments, cell.number(), down, key))?;
             for k in 0..8u32 {
-                let child = tree.child(c, k);
-                lay(
-                    tree,
-                    moments,
-                    bodies,
-                    child,
-                    below - 1,
-                    8 * key + u64::from(k),
-                    nodes,
-                )?;
+                let child_key = 8 * key + u64::from(k);
+                lay(&cell.child(k), moments, bodies, down - 1, child_key, nodes)?;
             }
-            close(nodes, at);
+            close(nodes, own);
             Ok(())
         }
     }
@@ -118,8 +107,8 @@ pub fn flat_table(
     requires moments { HaveMatter tree.now (matter_of bodies.now) moments.now }
     ensures { IfOk result (λ nodes. nodes.items ≡ flat (matter_of bodies.now) 21 1 (tree_of tree.now)) }
 {
-    let _rule = (tree.held(), bodies.len());
+    let _rule = bodies.len();
     let mut nodes = Vec::new(alloc);
-    lay(tree, moments, bodies, tree.root(), 22, 1, &mut nodes)?;
+    lay(&tree.whole(), moments, bodies, 21, 1, &mut nodes)?;
     Ok(nodes)
 }

@@ -1,13 +1,15 @@
 //! The pull on one body.
 
-ghost use Rattle.std.specs.Prelude.{◌≡◌, ◌+◌, ◌-◌, ◌*◌, ◌<◌, ◌^◌, All, length};
+ghost use Rattle.std.specs.Prelude.{◌≡◌, ◌+◌, ◌<◌, length};
 ghost use Rattle.octant_code.specs.Space.{squared_distance};
-ghost use Rattle.bh_model.specs.Pulls.{IsSmall, pull, pull_from, term};
-ghost use Rattle.force_walk.specs.Flat.{IsLaid, flat, is_opened};
+ghost use Rattle.bh_model.specs.Pulls.{pull, pull_from, term};
+ghost use Rattle.force_walk.specs.Cubes.{IsTreeOfCube};
+ghost use Rattle.force_walk.specs.Flat.{IsLaid, is_opened};
 ghost use Rattle.force_walk.specs.Views.{IsView, seen};
 ghost use Rattle.force_walk.specs.Walks.{IsPullAmong};
 ghost use Rattle.mass_moments.specs.Kept.{HaveMatter, matter_of};
-ghost use Rattle.octree.specs.Reading.{IsOctreeOf, IsReadAt, tree_at};
+ghost use Rattle.octree.specs.Reading.{IsOctreeOf};
+ghost use Rattle.octree.specs.Spot.{tree_under};
 ghost use Rattle.octree.specs.Stored.{tree_of};
 ghost use Rattle.scene_file.specs.Bodies.{sites_of};
 
@@ -16,11 +18,11 @@ use crate::least::least_distances;
 use crate::node::WalkNode;
 use crate::term::term_at;
 use crate::view::View;
-use crate::walk::{is_opened, no_pull, plus};
+use crate::walk::is_opened;
 use bh_model::{Law, Pull};
 use mass_moments::Moments;
 use octant_code::{key_at, squared_distance};
-use octree::{Node, Octree};
+use octree::{Octree, Subtree, Top};
 use scene_file::Bodies;
 
 /// The pull on body `n`. It takes no memory, and reads the octree on the way; for many bodies `pulls`
@@ -32,11 +34,10 @@ pub fn pull(tree: &Octree, moments: &Moments, bodies: &Bodies, n: u32, law: &Law
     ensures value { result ≡ pull law.now (matter_of bodies.now) n (tree_of tree.now) }
     ensures small { IsPullAmong (length bodies.now) result }
 {
-    let _rule = (tree.held(), bodies.len());
+    let _rule = bodies.len();
     let least = least_distances(law);
     let from = bodies.get(n).at;
     let view = View {
-        tree,
         moments,
         bodies,
         law,
@@ -45,38 +46,35 @@ pub fn pull(tree: &Octree, moments: &Moments, bodies: &Bodies, n: u32, law: &Law
         from,
         own: key_at(from, 21),
     };
-    pull_below(&view, tree.root(), 22, 1)
+    pull_below(&view, &tree.whole(), 21, 1)
 }
 
-/// The pull of the tree of a node that is read with a key, and with so many words from its own on.
-fn pull_below(view: &View, node: Node, below: u32, key: u64) -> Pull
+/// The pull of a subtree, whose cube has side `2^down` and a key.
+#[tactic(auto, using(octree::proofs::Laws::child_height))]
+fn pull_below(view: &View, at: &Subtree, down: u32, key: u64) -> Pull
     requires view { IsView view.now }
-    requires read { IsReadAt view.now.tree.now below key node }
-    requires laid { All IsLaid (flat (seen view.now) (below - 1) key (tree_at view.now.tree.now below node)) }
-    requires few { length (flat (seen view.now) (below - 1) key (tree_at view.now.tree.now below node)) < 2 ^ 32 }
-    ensures value { result ≡ pull_from view.now.law.now (seen view.now) view.now.n (below - 1) key (tree_at view.now.tree.now below node) }
-    ensures small { IsSmall (length (flat (seen view.now) (below - 1) key (tree_at view.now.tree.now below node)) * 2 ^ 80) (length (flat (seen view.now) (below - 1) key (tree_at view.now.tree.now below node))) result }
+    requires cube { IsTreeOfCube (seen view.now) (length view.now.bodies.now) down key (tree_under at.now) }
+    requires moments { HaveMatter at.now.octree (seen view.now) view.now.moments.now }
+    ensures { result ≡ pull_from view.now.law.now (seen view.now) view.now.n down key (tree_under at.now) }
 {
-    match node {
-        Node::Empty => no_pull(),
-        Node::Body(other) => {
+    match at.top() {
+        Top::Nothing => Pull::none(),
+        Top::Body(other) => {
             if other == view.n {
-                no_pull()
+                Pull::none()
             } else {
-                let body = node_of_body(view.bodies, other);
-                term_of(view, &body)
+                term_of(view, &node_of_body(view.bodies, other))
             }
         }
-        Node::Cell(c) => {
-            let cell = node_of_cell(view.moments, c, below - 1, key);
-            if !opens(view, &cell) {
-                return term_of(view, &cell);
+        Top::Cell(cell) => {
+            let node = node_of_cell(view.moments, cell.number(), down, key);
+            if !opens(view, &node) {
+                return term_of(view, &node);
             }
-            let mut sum = no_pull();
+            let mut sum = Pull::none();
             for k in 0..8u32 {
-                let child = view.tree.child(c, k);
-                let part = pull_below(view, child, below - 1, 8 * key + u64::from(k));
-                sum = plus(sum, part);
+                let child_key = 8 * key + u64::from(k);
+                sum = sum.plus(pull_below(view, &cell.child(k), down - 1, child_key));
             }
             sum
         }
@@ -98,8 +96,7 @@ fn term_of(view: &View, node: &WalkNode) -> Pull
     requires view { IsView view.now }
     requires laid { IsLaid node.now }
     requires apart { 0 < squared_distance view.now.from node.now.at + view.now.law.now.eps2 }
-    ensures value { result ≡ term view.now.law.now node.now.mass view.now.from node.now.at }
-    ensures small { IsSmall (2 ^ 80) 1 result }
+    ensures { result ≡ term view.now.law.now node.now.mass view.now.from node.now.at }
 {
     let d2 = squared_distance(view.from, node.at);
     term_at(view.law, node.mass, view.from, node.at, d2)

@@ -4,13 +4,11 @@ use crate::least::SIDES;
 use bh_model::Law;
 use mass_moments::Moments;
 use octant_code::Point;
-use octree::Octree;
 use scene_file::Bodies;
 
-/// A scene with its octree and its moments, the law by which it pulls, and the body on which it does.
+/// A scene with the moments of its octree, the law by which it pulls, and the body on which it does.
 #[derive(Clone, Copy)]
 pub struct View<'a> {
-    pub tree: &'a Octree,
     pub moments: &'a Moments,
     pub bodies: &'a Bodies,
     pub law: &'a Law,

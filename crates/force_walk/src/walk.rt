@@ -2,7 +2,7 @@
 
 ghost use Rattle.std.specs.Prelude.{◌≡◌, ◌+◌, ◌-◌, ◌<◌, ◌^◌, All, length};
 ghost use Rattle.octant_code.specs.Space.{key_of, squared_distance};
-ghost use Rattle.bh_model.specs.Pulls.{IsPullLaw, IsSmall, add_pull, no_pull};
+ghost use Rattle.bh_model.specs.Pulls.{IsPullLaw};
 ghost use Rattle.force_walk.specs.Flat.{AreLeast, IsLaid, is_opened, walked};
 
 use crate::least::SIDES;
@@ -10,34 +10,6 @@ use crate::node::WalkNode;
 use crate::term::term_at;
 use bh_model::{Law, Pull};
 use octant_code::{Point, key_at, squared_distance};
-
-/// The pull of no term.
-pub fn no_pull() -> Pull
-    ensures { result ≡ no_pull }
-{
-    Pull {
-        ax: 0,
-        ay: 0,
-        az: 0,
-        met: 0,
-    }
-}
-
-/// The sum of two pulls.
-#[inline]
-pub fn plus(one: Pull, other: Pull) -> Pull
-    requires one_small { IsSmall (2 ^ 120) (2 ^ 32) one }
-    requires other_small { IsSmall (2 ^ 120) (2 ^ 32) other }
-    requires few { one.met + other.met < 2 ^ 32 }
-    ensures { result ≡ add_pull one other }
-{
-    Pull {
-        ax: one.ax + other.ax,
-        ay: one.ay + other.ay,
-        az: one.az + other.az,
-        met: one.met + other.met,
-    }
-}
 
 /// Whether the body at a point, with a key at the deepest level and a squared distance, goes on from
 /// a node to the next one.
@@ -72,7 +44,7 @@ pub fn walk(nodes: &[WalkNode], least: &[u64; SIDES], law: &Law, from: Point) ->
     ensures { result ≡ walked law.now from nodes.now 0 }
 {
     let own = key_at(from, 21);
-    let mut sum = no_pull();
+    let mut sum = Pull::none();
     let mut at = 0usize;
     while at < nodes.len() {
         let node = &nodes[at];
@@ -80,7 +52,7 @@ pub fn walk(nodes: &[WalkNode], least: &[u64; SIDES], law: &Law, from: Point) ->
         if is_opened(node, least, law, from, own, d2) {
             at += 1;
         } else {
-            sum = plus(sum, term_at(law, node.mass, from, node.at, d2));
+            sum = sum.plus(term_at(law, node.mass, from, node.at, d2));
             at += node.skip as usize;
         }
     }

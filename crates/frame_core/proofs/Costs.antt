@@ -1,34 +1,8 @@
--- The cost of all bodies of an octree, by its root.
-use Rattle.std.proofs.Common.{◌≡◌, ◌<◌, ◌+◌, ℕ, List, [], ◌∷◌, length, map, take, get_or, max, sym, ◌∙◌, ap, arith}
+-- The greatest cost of zones.
+use Rattle.std.proofs.Common.{◌≡◌, ◌<◌, ◌+◌, ℕ, List, [], ◌∷◌, length, map, take, get_or, max, ◌∙◌, ap, arith}
 use Rattle.std.proofs.lemmas.List.{map_more}
 use Rattle.bh_model.proofs.Trees.{greatest-append}
-use Rattle.bh_model.proofs.Totals.{total-body, total-empty, total-order}
-use Rattle.bh_model.specs.Moments.{total}
-use Rattle.bh_model.specs.Trees.{greatest, order}
-use Rattle.bh_model.specs.Zones.{cost_of}
-use Rattle.octree.proofs.Reading.{root_tree, tree_none, tree_one}
-use Rattle.octree.specs.Node.{IsNodeOf}
-use Rattle.octree.specs.Reading.{tree_at, tree_below}
-use Rattle.octree.specs.Stored.{Stored, root_word, tree_of}
-use Rattle.octree.specs.declared.node.CellNo.{CellNo}
-use Rattle.octree.specs.declared.node.Node.{Node}
-use Rattle.octree.specs.declared.node.Node.TheVariants.{Empty, Body, Cell}
-
--- the cost of all bodies is the total of the root's tree
-cost_at_root : (o : Stored) (cost : ℕ → ℕ) (node : Node) → IsNodeOf (root_word o) node → total cost (tree_at o 22 node) ≡ cost_of cost (order (tree_of o))
-cost_at_root o cost node e = ap (total cost) (root_tree o node e) ∙ total-order cost (tree_of o)
-
--- no body costs nothing
-pub cost_at_none : (o : Stored) (cost : ℕ → ℕ) → IsNodeOf (root_word o) Empty → 0 ≡ cost_of cost (order (tree_of o))
-cost_at_none o cost e = sym (total-empty cost) ∙ ap (total cost) (sym (tree_none o 22 (omega arith))) ∙ cost_at_root o cost Empty e
-
--- one body
-pub cost_at_one : (o : Stored) (cost : ℕ → ℕ) (n : ℕ) → IsNodeOf (root_word o) (Body n) → cost n ≡ cost_of cost (order (tree_of o))
-cost_at_one o cost n e = sym (total-body cost n) ∙ ap (total cost) (sym (tree_one o 22 n (omega arith))) ∙ cost_at_root o cost (Body n) e
-
--- the bodies of a cell
-pub cost_at_cell : (o : Stored) (cost : ℕ → ℕ) (c : CellNo) → IsNodeOf (root_word o) (Cell c) → total cost (tree_below o c.0) ≡ cost_of cost (order (tree_of o))
-cost_at_cell o cost c e = cost_at_root o cost (Cell c) e
+use Rattle.bh_model.specs.Trees.{greatest}
 
 -- the greatest of the first numbers and one more
 pub greatest_more : {X : Type 0} (f : X → ℕ) (xs : List X) (i : ℕ) (d : X) → i < length xs → greatest (map f (take (i + 1) xs)) ≡ max (greatest (map f (take i xs))) (f (get_or xs i d))

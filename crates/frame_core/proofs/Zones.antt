@@ -6,7 +6,7 @@ use Rattle.octant_code.specs.Points.{ArePoints, site_at}
 use Rattle.octant_code.specs.Space.{IsInCube}
 use Rattle.bh_model.proofs.Cells.{ArePlaced, placed_of_points}
 use Rattle.bh_model.proofs.Lists.{in_numbers, numbers_once}
-use Rattle.bh_model.proofs.Orders.{order_has_none_twice, order_members}
+use Rattle.bh_model.proofs.Orders.{numbers_in_order, order_has_none_twice, order_members}
 use Rattle.bh_model.proofs.ZoneCuts.{one_zone, zone_from-cost, zone_from-member}
 use Rattle.bh_model.specs.Bodies.{IsIn, numbers}
 use Rattle.bh_model.specs.Trees.{Tree, greatest, octree, order}
@@ -15,7 +15,6 @@ use Rattle.octree.specs.Reading.{IsOctreeOf}
 use Rattle.octree.specs.Stored.{Stored, tree_of}
 use Rattle.scene_file.specs.Bodies.{AreBodies, sites_of}
 use Rattle.scene_file.specs.declared.bodies.Body.{Body}
-use Rattle.tree_rule.specs.Words.{HasBody}
 use Rattle.frame_core.specs.Frames.{tree_of_bodies}
 use Rattle.frame_core.proofs.Rows.{contains_member, in_at, length-values, value_at_place}
 use Rattle.bh_model.proofs.Standing.{length_numbers, number_at_place}
@@ -30,9 +29,14 @@ sites_count bodies = length-map bodies (λ (b : Body). b.at)
 pub tree_is : (bodies : List Body) (o : Stored) → IsOctreeOf (sites_of bodies) o → tree_of o ≡ tree_of_bodies bodies
 tree_is bodies o h = h.tree ∙ ap (λ k. octree (site_at (sites_of bodies)) (numbers k)) (sites_count bodies)
 
--- it names bodies alone
-pub body_within : (bodies : List Body) (o : Stored) (n : ℕ) → IsOctreeOf (sites_of bodies) o → HasBody o.words n → n < length bodies
-body_within bodies o n h b = let less = h.canonical.bodies_in n b in omega (arith, less, sites_count bodies)
+-- it has the scene's bodies alone
+pub body_within : (bodies : List Body) (o : Stored) (n : ℕ) → IsOctreeOf (sites_of bodies) o → IsIn (order (tree_of o)) n → n < length bodies
+body_within bodies o n h i =
+    omega (
+      arith,
+      numbers_in_order (site_at (sites_of bodies)) (length (sites_of bodies)) n (subst (λ (t : Tree). IsIn (order t) n) h.tree i),
+      sites_count bodies,
+    )
 
 -- all bodies are placed in the cube
 placed : (bodies : List Body) → AreBodies bodies → ArePlaced (site_at (sites_of bodies)) (numbers (length bodies))

@@ -1,3 +1,3 @@
-pub mod Parts
-pub mod Fills
+pub mod ChildMoments
+pub mod Fillings
 pub mod Bounds

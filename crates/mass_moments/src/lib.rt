@@ -2,11 +2,11 @@
 #![tactic(auto)]
 
 mod fill;
-mod laws;
 mod sums;
 mod table;
+mod theorems;
 
 pub use bh_model::Moment;
-pub use laws::a_kept_cost_is_that_of_the_bodies;
 pub use sums::moments;
 pub use table::Moments;
+pub use theorems::a_kept_cost_is_that_of_the_bodies;

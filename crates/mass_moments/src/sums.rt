@@ -6,12 +6,16 @@ ghost use Rattle.mass_moments.specs.Kept.{AreMoments, matter_of};
 ghost use Rattle.octree.specs.Reading.{IsOctreeOf};
 ghost use Rattle.scene_file.specs.Bodies.{sites_of};
 
-use crate::fill::{NO_MOMENT, ORIGIN, fill};
+use crate::fill::fill;
 use crate::table::Moments;
-use octant_code::OutOfMemory;
+use bh_model::Moment;
+use octant_code::{OutOfMemory, Point};
 use octree::Octree;
 use scene_file::Bodies;
 use std::alloc::Global;
+
+/// What stands where no cell's centre is put.
+const ORIGIN: Point = Point { x: 0, y: 0, z: 0 };
 
 /// The moment of each cell of the canonical octree of all bodies that can be reached, with a cost from
 /// 1 to 65,536 for each body (Barnes and Hut, Nature 324, 1986).
@@ -29,7 +33,7 @@ pub fn moments<R>(
 {
     let _rule = bodies.len();
     let used = (tree.held() - tree.spare()) as usize;
-    let Ok(mut list) = vec![in alloc; NO_MOMENT; used] else {
+    let Ok(mut list) = vec![in alloc; Moment::none(); used] else {
         return Err(OutOfMemory);
     };
     let Ok(mut centres) = vec![in alloc; ORIGIN; used] else {

@@ -8,7 +8,8 @@ use Rattle.bh_model.specs.Trees.{in_octant, octree_from}
 use Rattle.bh_model.specs.declared.moment.Moment.{Moment}
 use Rattle.bh_model.specs.declared.pull.Pull.{Pull}
 use Rattle.bh_plain.proofs.ListMoments.{total_within}
-use Rattle.bh_plain.proofs.ListPulls.{apart_same, centre_inside, widened, front_small, octant_pulls, one_small, part_child, part_key, part_moment, part_tree, pull_of_empty, pull_of_single, pull_of_split, pull_of_whole, pull_step, pull_upto, term_same, whole_told}
+use Rattle.bh_model.proofs.PullSums.{pull_step, pull_upto}
+use Rattle.bh_plain.proofs.ListPulls.{apart_same, centre_inside, widened, front_small, octant_pulls, one_small, part_child, part_key, part_moment, part_tree, pull_of_empty, pull_of_single, pull_of_split, pull_of_whole, term_same, whole_told}
 use Rattle.bh_model.proofs.PullBounds.{whole_apart}
 use Rattle.bh_model.proofs.Splits.{list_is_empty, list_has_some}
 use Rattle.bh_plain.proofs.pulls.+pull_of_part.Goals as goal

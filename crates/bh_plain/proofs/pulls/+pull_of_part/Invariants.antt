@@ -1,6 +1,7 @@
 use Rattle.std.proofs.Common.{◌≡◌, ◌-◌}
 use Rattle.bh_model.specs.Moments.{matter_by}
-use Rattle.bh_plain.proofs.ListPulls.{octant_pulls, pull_upto}
+use Rattle.bh_model.proofs.PullSums.{pull_upto}
+use Rattle.bh_plain.proofs.ListPulls.{octant_pulls}
 use Rattle.bh_plain.proofs.pulls.+pull_of_part.Given as goal
 
 abbrev pub decreases-pull_of_part : goal.decreases-pull_of_part

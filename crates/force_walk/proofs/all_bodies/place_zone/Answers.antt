@@ -1,6 +1,6 @@
 -- One more pull of a zone stands, and no other is lost.
 use Rattle.std.proofs.Common.{ℕ, ◌∙◌, get_or, refl}
-use Rattle.force_walk.proofs.Placing.{put_more}
+use Rattle.force_walk.proofs.Placements.{put_more}
 use Rattle.force_walk.proofs.all_bodies.place_zone.Goals as goal
 
 pub loop-n-preserved : goal.loop-n-preserved

@@ -1,5 +1,5 @@
 use Rattle.mass_moments.specs.Kept.{matter_of}
-use Rattle.force_walk.proofs.Placing.{ArePut}
+use Rattle.force_walk.proofs.Placements.{ArePut}
 use Rattle.force_walk.proofs.all_bodies.place_zone.Given as goal
 
 abbrev pub invariant-loop-n : goal.invariant-loop-n

@@ -5,19 +5,20 @@ use Rattle.force_walk.specs.Flat.{IsLaid, walked}
 use Rattle.force_walk.specs.Placed.{IsPlaced}
 use Rattle.force_walk.specs.Walks.{IsPullAmong}
 use Rattle.force_walk.specs.declared.node.WalkNode.{WalkNode}
-use Rattle.force_walk.proofs.Scenes.{IsScene, scene_few, scene_laid, scene_small, scene_walk}
-use Rattle.force_walk.proofs.Placing.{all_placed, all_small, told_of_all}
+use Rattle.force_walk.proofs.Cubes.{cube_few, cube_laid}
+use Rattle.force_walk.proofs.Scenes.{IsScene, scene_cube, scene_small, scene_walk}
+use Rattle.force_walk.proofs.Placements.{all_placed, all_small, told_of_all}
 use Rattle.force_walk.proofs.all_bodies.pulls.Goals as goal
 
 pub place_zone-requires-clause-laid : goal.place_zone-requires-clause-laid
 place_zone-requires-clause-laid g c =
     let scene : IsScene c.args.bodies.now c.args.tree.now = record { rule = c.len.ensures.rule; octree = c.requires.octree } in
-    subst (λ (l : List WalkNode). All IsLaid l) (sym (c.deref.ensures.value ∙ c.in_ok-nodes.ensures)) (scene_laid c.args.bodies.now c.args.tree.now scene)
+    subst (λ (l : List WalkNode). All IsLaid l) (sym (c.deref.ensures.value ∙ c.in_ok-nodes.ensures)) (cube_laid (scene_cube c.args.bodies.now c.args.tree.now scene))
 
 pub place_zone-requires-clause-few : goal.place_zone-requires-clause-few
 place_zone-requires-clause-few g c =
     let scene : IsScene c.args.bodies.now c.args.tree.now = record { rule = c.len.ensures.rule; octree = c.requires.octree } in
-    omega (arith, scene_few c.args.bodies.now c.args.tree.now scene, ap length (c.deref.ensures.value ∙ c.in_ok-nodes.ensures))
+    omega (arith, cube_few (scene_cube c.args.bodies.now c.args.tree.now scene), ap length (c.deref.ensures.value ∙ c.in_ok-nodes.ensures))
 
 pub returns-clause-value : goal.returns-clause-value
 returns-clause-value g c =

@@ -1,13 +1,15 @@
-use Rattle.std.proofs.Common.{◌≡◌, ◌++◌, ◌∷◌, [], ◌-◌}
+use Rattle.std.proofs.Common.{◌≡◌, ◌++◌, ◌∷◌, []}
+use Rattle.bh_model.specs.Trees.{height}
 use Rattle.mass_moments.specs.Kept.{matter_of}
-use Rattle.force_walk.specs.Flat.{kept_node}
-use Rattle.force_walk.proofs.Flats.{joined_nodes}
-use Rattle.force_walk.proofs.Lays.{cell_flats}
+use Rattle.octree.specs.Spot.{child_under, tree_under}
+use Rattle.force_walk.specs.Flat.{cell_node}
+use Rattle.force_walk.proofs.Flats.{child_flat, joined_nodes}
 use Rattle.force_walk.proofs.lay.+lay.Given as goal
 
 abbrev pub decreases-lay : goal.decreases-lay
-decreases-lay l = l.below
+decreases-lay l = height (tree_under l.at.now)
 
 abbrev pub invariant-loop-k : goal.invariant-loop-k
 invariant-loop-k l =
-    l.nodes.items ≡ (l.fn.nodes.items ++ kept_node l.moments l.c.0 (l.below - 1) l.key 1 ∷ []) ++ joined_nodes (cell_flats (matter_of l.bodies) l.tree l.below l.key l.c.0) l.k
+    l.nodes.items
+    ≡ (l.fn.nodes.items ++ cell_node (matter_of l.bodies) l.down l.key 1 (tree_under l.at) ∷ []) ++ joined_nodes (child_flat (matter_of l.bodies) l.down l.key (child_under l.cell)) l.k

@@ -1,6 +1,6 @@
 use Rattle.std.proofs.Common.{◌∙◌, sym}
 use Rattle.std.proofs.lemmas.Bool.{lt-ltb}
-use Rattle.force_walk.proofs.Opens.{far_opened, near_opened}
+use Rattle.force_walk.proofs.Openings.{far_opened, near_opened}
 use Rattle.force_walk.proofs.walk.is_opened.Goals as goal
 
 pub returns-then-d2-least : goal.returns-then-d2-least

@@ -3,8 +3,8 @@ use Rattle.bh_model.specs.Pulls.{IsSmall, add_pull}
 use Rattle.bh_model.specs.declared.pull.Pull.{Pull}
 use Rattle.bh_model.proofs.PullBounds.{small_more}
 use Rattle.force_walk.specs.Flat.{IsLaid, is_opened}
-use Rattle.force_walk.proofs.Opens.{taken_apart}
-use Rattle.force_walk.proofs.Walked.{term_fits, term_met, way_ends, way_opens, way_takes}
+use Rattle.force_walk.proofs.Openings.{taken_apart}
+use Rattle.force_walk.proofs.Walks.{term_fits, term_met, way_ends, way_opens, way_takes}
 use Rattle.force_walk.proofs.walk.walk.Goals as goal
 
 pub loop-at-preserved-then-is_opened : goal.loop-at-preserved-then-is_opened

@@ -1,5 +1,5 @@
 use Rattle.std.proofs.Common.{length, ◌-◌}
-use Rattle.force_walk.proofs.Walked.{IsOnTheWay}
+use Rattle.force_walk.proofs.Walks.{IsOnTheWay}
 use Rattle.force_walk.proofs.walk.walk.Given as goal
 
 abbrev pub invariant-loop-at : goal.invariant-loop-at

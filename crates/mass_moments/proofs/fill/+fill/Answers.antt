@@ -3,21 +3,29 @@ use Rattle.bh_model.specs.Moments.{moment}
 use Rattle.octree.proofs.Laws.{child_bodies, child_height, child_octree, top_body_inside}
 use Rattle.octree.specs.Spot.{IsReachable}
 use Rattle.octree.specs.Stored.{Stored}
-use Rattle.mass_moments.proofs.Fills.{filled_cell, filled_more, filled_start, small_at, small_more, whole_cell}
-use Rattle.mass_moments.proofs.Parts.{AreSumsSmall, moment_none}
-use Rattle.bh_model.specs.Moments.{add_moment}
+use Rattle.mass_moments.proofs.Fillings.{filled_cell, filled_more, filled_start, fit_more, small_at, whole_cell}
+use Rattle.mass_moments.proofs.ChildMoments.{body_in_cube, moment_listed, moment_none}
 use Rattle.bh_model.specs.Zones.{cost_at}
+use Rattle.mass_moments.specs.Filling.{AreProductsInCube}
 use Rattle.mass_moments.specs.Kept.{matter_of}
-use Rattle.mass_moments.proofs.fill.+fill.Goals.{After-centres-1}
 use Rattle.mass_moments.proofs.fill.+fill.Goals as goal
 
-pub of_body-requires : goal.of_body-requires
-of_body-requires t c =
+pub get-body-requires : goal.get-body-requires
+get-body-requires t c = c.requires.bodies_in c.in-Body.n (top_body_inside _ _ c.in-Body.ensures)
+
+pub bounds-costs-n : goal.bounds-costs-n
+bounds-costs-n t c = omega (arith, c.requires.one_cost_each, c.requires.bodies_in c.in-Body.n (top_body_inside _ _ c.in-Body.ensures))
+
+pub returns-in-Body-clause-value : goal.returns-in-Body-clause-value
+returns-in-Body-clause-value t c =
     let within = c.requires.bodies_in c.in-Body.n (top_body_inside _ _ c.in-Body.ensures) in
-    record { body = within; cost = omega (arith, c.requires.one_cost_each) }
+    c.of_body.ensures ∙ moment_listed c.args.bodies.now c.args.costs.now _ c.in-Body.n c.get-body.result c.in-Body.ensures.tree within c.get-body.ensures.value
+
+pub returns-in-Body-clause-inside : goal.returns-in-Body-clause-inside
+returns-in-Body-clause-inside t c = subst AreProductsInCube (sym c.of_body.ensures) (body_in_cube _ _ c.get-body.result.at c.get-body.ensures.inside)
 
 pub loop-k-init : goal.loop-k-init
-loop-k-init t c = record { filled = filled_start _ _ _ _; centred = c.requires.centred }
+loop-k-init t c = record { filled = rw c.none-whole.ensures (filled_start _ _ _ _); centred = c.requires.centred }
 
 pub fill-part-requires : goal.fill-part-requires
 fill-part-requires t c =
@@ -36,22 +44,12 @@ fill-part-requires t c =
       ),
     )
 
--- the sums with one child more
-sums : (t : _) (c : After-centres-1 t) → AreSumsSmall (add_moment c.loop-k.whole c.fill-part.result)
-sums t c = small_more c.in-Cell.ensures c.child.ensures c.loop-k-test.true c.requires.small c.loop-k.invariant.filled c.fill-part.ensures.value
-
-pub sum-whole-requires-clause-mass : goal.sum-whole-requires-clause-mass
-sum-whole-requires-clause-mass t c = (sums t c).light
-
-pub sum-whole-requires-clause-bodies : goal.sum-whole-requires-clause-bodies
-sum-whole-requires-clause-bodies t c = (sums t c).few
-
-pub sum-whole-requires-clause-cost : goal.sum-whole-requires-clause-cost
-sum-whole-requires-clause-cost t c = (sums t c).cheap
+pub plus-whole-requires : goal.plus-whole-requires
+plus-whole-requires t c = fit_more c.in-Cell.ensures c.child.ensures c.loop-k-test.true c.requires.small c.loop-k.invariant.filled c.fill-part.ensures.value c.fill-part.ensures.inside
 
 pub loop-k-preserved : goal.loop-k-preserved
 loop-k-preserved t c = record {
-  filled = filled_more c.in-Cell.ensures c.child.ensures c.loop-k-test.true c.loop-k.invariant.filled c.fill-part.ensures.filled c.fill-part.ensures.value c.sum-whole.ensures.value c.sum-whole.ensures.inside;
+  filled = filled_more c.in-Cell.ensures c.child.ensures c.loop-k-test.true c.loop-k.invariant.filled c.fill-part.ensures.filled c.fill-part.ensures.value c.fill-part.ensures.inside c.plus-whole.ensures;
   centred = c.fill-part.ensures.centred;
 }
 
@@ -62,7 +60,7 @@ pub returns-in-Nothing-clause-value : goal.returns-in-Nothing-clause-value
 returns-in-Nothing-clause-value t c =
     let m = matter_of c.args.bodies.now in
     let cost = cost_at c.args.costs.now in
-    sym (ap (moment m cost) c.in-Nothing.ensures.tree ∙ moment_none m cost)
+    c.none.ensures ∙ sym (ap (moment m cost) c.in-Nothing.ensures.tree ∙ moment_none m cost)
 
 pub returns-after-loop-k-clause-value : goal.returns-after-loop-k-clause-value
 returns-after-loop-k-clause-value t c = whole_cell c.in-Cell.ensures (omega arith) c.loop-k.invariant.filled

@@ -1,5 +1,5 @@
 use Rattle.octree.specs.Spot.{height, tree_under}
-use Rattle.mass_moments.proofs.Fills.{AreFilledUpTo}
+use Rattle.mass_moments.proofs.Fillings.{AreFilledUpTo}
 use Rattle.mass_moments.specs.Centred.{AreCentred}
 use Rattle.bh_model.specs.Zones.{cost_at}
 use Rattle.mass_moments.specs.Kept.{matter_of}

@@ -1,4 +1,4 @@
-//! The law of kept costs. The contract is the law, and the body only looks at its arguments.
+//! The theorem of kept costs. The contract is the theorem, and the body only looks at its arguments.
 
 ghost use Rattle.std.specs.Prelude.{◌≡◌};
 ghost use Rattle.bh_model.specs.Trees.{order};

@@ -2,12 +2,12 @@
 use Rattle.std.proofs.Common.{ℕ, ◌+◌, ◌<◌, ◌≡◌, ◌≢◌, refl, sym, ◌∙◌, ap, subst, inl, inr, arith, List, length, set, get_or-set_same, get_or-set_other}
 use Rattle.std.proofs.lemmas.Bool.{cases_lt}
 use Rattle.bh_model.proofs.Equal.{same_or_not}
-use Rattle.bh_model.specs.Moments.{Matter, add_moment, moment, no_moment}
+use Rattle.bh_model.specs.Moments.{FitsWords, Matter, add_moment, moment, no_moment}
 use Rattle.bh_model.specs.declared.moment.Moment.{Moment}
 use Rattle.octree.specs.Reading.{tree_below}
 use Rattle.octree.specs.Spot.{IsCellUnder, IsUnderChild, Spot, cell_at, child_under, tree_under}
 use Rattle.octree.specs.Subtree.{IsCellAt, IsChildOf}
-use Rattle.mass_moments.proofs.Parts.{AreSumsSmall, moment_upto, small_child, small_upto, upto_all, upto_more, upto_none}
+use Rattle.mass_moments.proofs.ChildMoments.{moment_upto, none_in_cube, small_child, sum_in_cube, sums_fit, upto_all, upto_more, upto_none}
 use Rattle.mass_moments.specs.Filling.{AreFilled, AreProductsInCube, AreSmall}
 use Rattle.mass_moments.specs.Kept.{moment_at}
 
@@ -26,7 +26,7 @@ filled_bare m cost s list bare = record { own = λ d r. absurd (bare d r); other
 pub filled_start : (m : Matter) (cost : ℕ → ℕ) (cell : Spot) (list : List Moment) → AreFilledUpTo m cost cell 0 list list no_moment
 filled_start m cost cell list = record {
   whole_is = upto_none m cost (child_under cell);
-  inside = record { x = omega arith; y = omega arith; z = omega arith };
+  inside = none_in_cube;
   own = λ j d l r. absurd (omega arith);
   others = λ d h. refl;
 }
@@ -40,10 +40,10 @@ part_more m cost cell child k whole part is whole_is part_is =
 -- one child more
 pub filled_more : {m : Matter} {cost : ℕ → ℕ} {s cell child : Spot} {k : ℕ} {before now next : List Moment} {whole part more : Moment}
     → IsCellAt s cell → IsChildOf cell k child → k < 8 → AreFilledUpTo m cost cell k before now whole → AreFilled m cost child now next
-    → part ≡ moment m cost (tree_under child) → more ≡ add_moment whole part → AreProductsInCube more → AreFilledUpTo m cost cell (k + 1) before next more
-filled_more {m} {cost} {s} {cell} {child} {k} {before} {now} {next} {whole} {part} {more} at is small upto filled part_is more_is inside = record {
+    → part ≡ moment m cost (tree_under child) → AreProductsInCube part → more ≡ add_moment whole part → AreFilledUpTo m cost cell (k + 1) before next more
+filled_more {m} {cost} {s} {cell} {child} {k} {before} {now} {next} {whole} {part} {more} at is small upto filled part_is inside more_is = record {
   whole_is = more_is ∙ part_more m cost cell child k whole part is upto.whole_is part_is ∙ upto_more m cost (child_under cell) k;
-  inside = inside;
+  inside = subst AreProductsInCube (sym more_is) (sum_in_cube whole part upto.inside inside);
   own = λ j d l r. elim (cases_lt j k) [
     | inl less ↦ filled.others d (λ x. let same : j ≡ k = at.parts.apart j k d (omega arith) small r ((is.cells d).0 x) in omega arith) ∙ upto.own j d less r
     | inr ge ↦
@@ -86,9 +86,8 @@ pub small_at : {m : Matter} {cost : ℕ → ℕ} {s cell child : Spot} {k : ℕ}
 small_at {m} {cost} {s} {cell} {child} {k} at is l small =
     subst (AreSmall m cost) (sym is.tree) (small_child m cost (child_under cell) k l (subst (AreSmall m cost) at.tree small))
 
--- and so have the sums with one child more
-pub small_more : {m : Matter} {cost : ℕ → ℕ} {s cell child : Spot} {k : ℕ} {before now : List Moment} {whole part : Moment} → IsCellAt s cell → IsChildOf cell k child → k < 8
-    → AreSmall m cost (tree_under s) → AreFilledUpTo m cost cell k before now whole → part ≡ moment m cost (tree_under child) → AreSumsSmall (add_moment whole part)
-small_more {m} {cost} {s} {cell} {child} {k} {before} {now} {whole} {part} at is l small upto part_is =
-    subst AreSumsSmall (sym (part_more m cost cell child k whole part is upto.whole_is part_is))
-    (small_upto m cost (child_under cell) k l (subst (AreSmall m cost) at.tree small))
+-- and the sums with one child more fit the words
+pub fit_more : {m : Matter} {cost : ℕ → ℕ} {s cell child : Spot} {k : ℕ} {before now : List Moment} {whole part : Moment} → IsCellAt s cell → IsChildOf cell k child → k < 8
+    → AreSmall m cost (tree_under s) → AreFilledUpTo m cost cell k before now whole → part ≡ moment m cost (tree_under child) → AreProductsInCube part → FitsWords (add_moment whole part)
+fit_more {m} {cost} {s} {cell} {child} {k} {before} {now} {whole} {part} at is l small upto part_is inside =
+    sums_fit m cost (child_under cell) k whole part l (subst (AreSmall m cost) at.tree small) upto.whole_is (part_is ∙ ap (moment m cost) is.tree) upto.inside inside

@@ -1,5 +1,5 @@
 -- Moments by their parts: of one body, of a cell's children so far, and their sums.
-use Rattle.std.proofs.Common.{◌≡◌, ◌≤◌, ◌<◌, ◌+◌, ◌*◌, ◌^◌, ℕ, List, refl, ap, ◌∙◌, sym, arith, length}
+use Rattle.std.proofs.Common.{◌≡◌, ◌≤◌, ◌<◌, ◌+◌, ◌*◌, ◌/◌, ◌^◌, ℕ, List, refl, ap, ◌∙◌, sym, subst, inl, inr, arith, length}
 use Rattle.std.proofs.lemmas.List.{get_or-map}
 use Rattle.octant_code.specs.Points.{site_at}
 use Rattle.bh_model.proofs.Totals.{child_total, sum_upto, sum_upto-le, sum_upto-more, total-body, total-cell, total-empty}
@@ -8,8 +8,14 @@ use Rattle.bh_model.specs.Trees.{Tree, Body, Empty, cell_of}
 use Rattle.bh_model.specs.declared.moment.Moment.{Moment}
 use Rattle.scene_file.specs.Bodies.{body_at, nobody, sites_of}
 use Rattle.scene_file.specs.declared.bodies.Body.{Body as BodyOf}
-use Rattle.mass_moments.specs.Filling.{AreSmall}
-use Rattle.bh_model.specs.Moments.{add_moment, no_moment}
+use Rattle.mass_moments.specs.Filling.{AreProductsInCube, AreSmall}
+use Rattle.bh_model.specs.Moments.{FitsWords, add_moment, centre_of, moment_of_body, no_moment}
+use Rattle.bh_model.specs.Zones.{cost_at}
+use Rattle.octant_code.specs.Space.{IsInCube, Site}
+use Rattle.mass_moments.specs.Kept.{matter_of}
+use Rattle.std.proofs.Math.Nat.{div-zero, mul-le-mul_left}
+use Rattle.std.proofs.lemmas.Bool.{cases_lt}
+use Rattle.std.proofs.lemmas.Nat.{div_below}
 
 -- a moment of its parts
 abbrev pub made : ℕ → ℕ → ℕ → ℕ → ℕ → ℕ → Moment
@@ -32,12 +38,44 @@ moment_none m cost =
     (total-empty (λ n. m.mass n * (m.site n).z)) (total-empty (λ n. 1)) (total-empty cost)
 
 -- the moment of one body
-pub moment_one : (m : Matter) (cost : ℕ → ℕ) (n : ℕ)
-    → moment m cost (Body n) ≡ made (m.mass n) (m.mass n * (m.site n).x) (m.mass n * (m.site n).y) (m.mass n * (m.site n).z) 1 (cost n)
-moment_one m cost n =
-    moment_parts _ _ _ _ _ _ (m.mass n) (m.mass n * (m.site n).x) (m.mass n * (m.site n).y) (m.mass n * (m.site n).z) 1 (cost n)
+pub moment_one : (m : Matter) (cost : ℕ → ℕ) (t : Tree) (n : ℕ) → t ≡ Body n → moment m cost t ≡ moment_of_body (m.mass n) (m.site n) (cost n)
+moment_one m cost t n e =
+    ap (moment m cost) e
+    ∙ moment_parts _ _ _ _ _ _ (m.mass n) (m.mass n * (m.site n).x) (m.mass n * (m.site n).y) (m.mass n * (m.site n).z) 1 (cost n)
     (total-body m.mass n) (total-body (λ k. m.mass k * (m.site k).x) n) (total-body (λ k. m.mass k * (m.site k).y) n)
     (total-body (λ k. m.mass k * (m.site k).z) n) (total-body (λ k. 1) n) (total-body cost n)
+
+-- of a body of a list
+pub moment_listed : (bodies : List BodyOf) (costs : List ℕ) (t : Tree) (n : ℕ) (body : BodyOf) → t ≡ Body n → n < length bodies → body ≡ body_at bodies n
+    → moment_of_body body.mass body.at (cost_at costs n) ≡ moment (matter_of bodies) (cost_at costs) t
+moment_listed bodies costs t n body e within is =
+    ap (λ (b : BodyOf). moment_of_body b.mass b.at (cost_at costs n)) is ∙ ap (λ (s : Site). moment_of_body (body_at bodies n).mass s (cost_at costs n)) (sym (site_of_body bodies n within))
+    ∙ sym (moment_one (matter_of bodies) (cost_at costs) t n e)
+
+-- products of bodies in the cube
+pub none_in_cube : AreProductsInCube no_moment
+none_in_cube = record { x = omega arith; y = omega arith; z = omega arith }
+
+pub body_in_cube : (mass cost : ℕ) (at : Site) → IsInCube at → AreProductsInCube (moment_of_body mass at cost)
+body_in_cube mass cost at inside = record {
+  x = omega (arith, mul-le-mul_left mass (let l : at.x ≤ 2097151 = omega (arith, inside.x_fits) in l));
+  y = omega (arith, mul-le-mul_left mass (let l : at.y ≤ 2097151 = omega (arith, inside.y_fits) in l));
+  z = omega (arith, mul-le-mul_left mass (let l : at.z ≤ 2097151 = omega (arith, inside.z_fits) in l));
+}
+
+pub sum_in_cube : (a b : Moment) → AreProductsInCube a → AreProductsInCube b → AreProductsInCube (add_moment a b)
+sum_in_cube a b p q = record { x = omega (arith, p.x, q.x); y = omega (arith, p.y, q.y); z = omega (arith, p.z, q.z) }
+
+-- a centre of such bodies is in the cube
+quotient_in_cube : (product mass : ℕ) → product ≤ 2097151 * mass → product / mass < 2097152
+quotient_in_cube product mass h =
+    elim (cases_lt 0 mass) [
+      | inl some ↦ div_below product mass 2097152 some (omega arith)
+      | inr none ↦ (let z : mass ≡ 0 = omega arith in omega (arith, ap (λ y. product / y) z, div-zero product))
+    ]
+
+pub centre_in_cube : (a : Moment) → AreProductsInCube a → IsInCube (centre_of a)
+centre_in_cube a p = record { x_fits = quotient_in_cube a.px a.mass p.x; y_fits = quotient_in_cube a.py a.mass p.y; z_fits = quotient_in_cube a.pz a.mass p.z }
 
 -- the sums over the first k of some trees
 abbrev pub moment_upto : Matter → (ℕ → ℕ) → (ℕ → Tree) → ℕ → Moment
@@ -73,14 +111,30 @@ small_child m cost child k l s = record {
 }
 
 -- and so have the sums over the children so far
-pub record AreSumsSmall (a : Moment) : Type 0 where
-  pub light : a.mass < 2 ^ 40
-  pub few : a.bodies ≤ 65536
-  pub cheap : a.cost ≤ 2 ^ 32
+record AreSumsSmall (a : Moment) : Type 0 where
+  light : a.mass < 2 ^ 40
+  few : a.bodies ≤ 65536
+  cheap : a.cost ≤ 2 ^ 32
 
-pub small_upto : (m : Matter) (cost : ℕ → ℕ) (child : ℕ → Tree) (k : ℕ) → k < 8 → AreSmall m cost (cell_of child) → AreSumsSmall (add_moment (moment_upto m cost child k) (moment m cost (child k)))
+small_upto : (m : Matter) (cost : ℕ → ℕ) (child : ℕ → Tree) (k : ℕ) → k < 8 → AreSmall m cost (cell_of child) → AreSumsSmall (add_moment (moment_upto m cost child k) (moment m cost (child k)))
 small_upto m cost child k l s = record {
   light = omega (arith, s.light, total-cell m.mass child, sum_upto-le (λ j. total m.mass (child j)) (k + 1) 8 (omega arith), sum_upto-more (λ j. total m.mass (child j)) k);
   few = omega (arith, s.few, total-cell (λ n. 1) child, sum_upto-le (λ j. total (λ n. 1) (child j)) (k + 1) 8 (omega arith), sum_upto-more (λ j. total (λ n. 1) (child j)) k);
   cheap = omega (arith, s.cheap, total-cell cost child, sum_upto-le (λ j. total cost (child j)) (k + 1) 8 (omega arith), sum_upto-more (λ j. total cost (child j)) k);
 }
+
+-- such sums fit the words
+pub sums_fit : (m : Matter) (cost : ℕ → ℕ) (child : ℕ → Tree) (k : ℕ) (whole part : Moment) → k < 8 → AreSmall m cost (cell_of child) → whole ≡ moment_upto m cost child k
+    → part ≡ moment m cost (child k) → AreProductsInCube whole → AreProductsInCube part → FitsWords (add_moment whole part)
+sums_fit m cost child k whole part l s whole_is part_is p q =
+    let same : add_moment whole part ≡ add_moment (moment_upto m cost child k) (moment m cost (child k)) = ap (λ y. add_moment y part) whole_is ∙ ap (add_moment (moment_upto m cost child k)) part_is in
+    let small : AreSumsSmall (add_moment whole part) = subst AreSumsSmall (sym same) (small_upto m cost child k l s) in
+    let inside = sum_in_cube whole part p q in
+    record {
+      mass = omega (arith, small.light);
+      px = omega (arith, small.light, inside.x);
+      py = omega (arith, small.light, inside.y);
+      pz = omega (arith, small.light, inside.z);
+      bodies = omega (arith, small.few);
+      cost = omega (arith, small.cheap);
+    }

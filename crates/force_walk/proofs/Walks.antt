@@ -1,21 +1,14 @@
 -- Sums of terms in the order of a walk.
-use Rattle.std.proofs.Common.{ℕ, ℤ, ◌+◌, ◌-◌, ◌*◌, ◌^◌, ◌<◌, ◌≤◌, ◌≡◌, zero, suc, true, false, List, [], ◌∷◌, length, get_or, drop, refl, sym, ap, ◌∙◌, subst, arith}
+use Rattle.std.proofs.Common.{ℕ, ◌+◌, ◌-◌, ◌*◌, ◌^◌, ◌<◌, ◌≤◌, ◌≡◌, zero, suc, true, false, List, [], ◌∷◌, length, get_or, drop, refl, sym, ap, ◌∙◌, subst, arith}
 use Rattle.std.proofs.lemmas.Int.{ints}
 use Rattle.std.proofs.lemmas.List.{drop_all, drop-drop, drop_more}
 use Rattle.octant_code.specs.Space.{Site, squared_distance}
 use Rattle.bh_model.specs.Pulls.{IsPullLaw, IsSmall, PullLaw, add_pull, no_pull, term}
 use Rattle.bh_model.specs.declared.pull.Pull.{Pull}
 use Rattle.bh_model.proofs.PullBounds.{pull_fits, small_add, small_more, small_none}
-use Rattle.bh_model.proofs.Terms.{term-small}
+use Rattle.bh_model.proofs.Terms.{same_pull, term-small}
 use Rattle.force_walk.specs.Flat.{IsLaid, is_opened, walked}
 use Rattle.force_walk.specs.declared.node.WalkNode.{WalkNode}
-
-abbrev pub pull_of : ℤ → ℤ → ℤ → ℕ → Pull
-pull_of x y z met = record { ax = x; ay = y; az = z; met = met }
-
--- pulls of equal parts are equal
-pub same_pull : (x x' y y' z z' : ℤ) (n n' : ℕ) → x ≡ x' → y ≡ y' → z ≡ z' → n ≡ n' → pull_of x y z n ≡ pull_of x' y' z' n'
-same_pull x x' y y' z z' n n' a b c d = cc
 
 -- sums of pulls may be grouped
 pub add_assoc : (p q r : Pull) → add_pull (add_pull p q) r ≡ add_pull p (add_pull q r)

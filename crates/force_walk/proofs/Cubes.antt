@@ -1,0 +1,78 @@
+-- The tree of a cube, where it is a cell, and those of the cubes in it.
+use Rattle.std.proofs.Common.{ℕ, suc, ◌+◌, ◌-◌, ◌*◌, ◌^◌, ◌<◌, ◌≤◌, ◌≡◌, length, All, sym, ap, subst, arith}
+use Rattle.std.proofs.Math.Nat.{mul-le-mul_left, mul-le-mul_right, pow-suc}
+use Rattle.octant_code.proofs.Keys.{pow8-mono}
+use Rattle.bh_model.proofs.Totals.{child_total, each_of_eight}
+use Rattle.bh_model.specs.Moments.{Matter, mass_of, total}
+use Rattle.bh_model.specs.Standing.{Stands}
+use Rattle.bh_model.specs.Trees.{Body, Tree, cell_of}
+use Rattle.octree.specs.Spot.{Spot, child_under, tree_under}
+use Rattle.octree.specs.Subtree.{IsBodyAt, IsCellAt, IsChildOf}
+use Rattle.force_walk.specs.Cubes.{IsTreeOfCube}
+use Rattle.force_walk.specs.Flat.{IsLaid, flat}
+use Rattle.force_walk.proofs.Flats.{flat_laid, flat_short, heavy_tree}
+
+-- the key of a cube in a cube has room
+key_room : (key k down most : ℕ) → 1 ≤ down → k < 8 → (key + 1) * 8 ^ down ≤ most → (8 * key + k + 1) * 8 ^ (down - 1) ≤ most
+key_room key k down most deep small room =
+    let up : down ≡ suc (down - 1) = omega arith in
+    let more : (8 * key + k + 1) * 8 ^ (down - 1) ≤ (8 * key + 8) * 8 ^ (down - 1) = mul-le-mul_right (8 ^ (down - 1)) (omega arith) in
+    omega (arith, more, ap (λ d. (key + 1) * 8 ^ d) up, ap (λ p. (key + 1) * p) (pow-suc 8 (down - 1)))
+
+-- each node of the table can be walked, and there are not too many
+pub cube_laid : {m : Matter} {most down key : ℕ} {tree : Tree} → IsTreeOfCube m most down key tree → All IsLaid (flat m down key tree)
+cube_laid {m} {most} {down} {key} {tree} cube = flat_laid m most cube.heavy down key tree cube.stands cube.light cube.shallow
+
+pub cube_few : {m : Matter} {most down key : ℕ} {tree : Tree} → IsTreeOfCube m most down key tree → length (flat m down key tree) < 2 ^ 32 - 1
+cube_few {m} {most} {down} {key} {tree} cube =
+    let rows = mul-le-mul_right (total (λ n. 1) tree) (let d : down + 1 ≤ 22 = omega (arith, cube.shallow) in d) in
+    omega (arith, flat_short m most down key tree cube.stands, rows, cube.few)
+
+-- a body is one of so many
+pub cube_body : {m : Matter} {most down key : ℕ} {s : Spot} {n : ℕ} → IsBodyAt s n → IsTreeOfCube m most down key (tree_under s) → n < most
+unfolding Stands
+cube_body {m} {most} {down} {key} {s} {n} at cube = let stands : Stands most down (Body n) = subst (Stands most down) at.tree cube.stands in stands
+
+module _ {m : Matter} {most down key : ℕ} {s cell : Spot} (at : IsCellAt s cell) (cube : IsTreeOfCube m most down key (tree_under s)) where
+  child : ℕ → Tree
+  child = child_under cell
+
+  stands : Stands most down (cell_of (child_under cell))
+  stands = subst (Stands most down) at.tree cube.stands
+
+  -- a cell has a cube to divide
+  pub cube_deep : 1 ≤ down
+  unfolding Stands
+  cube_deep = stands.0
+
+  -- it has bodies, and so it has mass
+  pub cube_many : 2 ≤ total (λ n. 1) (tree_under s)
+  unfolding Stands
+  cube_many = subst (λ (t : Tree). 2 ≤ total (λ n. 1) t) (sym at.tree) stands.1
+
+  pub cube_massive : 0 < mass_of m (tree_under s)
+  cube_massive = omega (arith, heavy_tree m most cube.heavy down (tree_under s) cube.stands, cube_many)
+
+  -- the keys of the cubes in it fit
+  pub cube_key : 8 * key + 7 < 2 ^ 64
+  cube_key =
+      let room = key_room key 7 down (2 ^ 64) cube_deep (omega arith) cube.room in
+      let one : 1 ≤ 8 ^ (down - 1) = pow8-mono 0 (down - 1) (omega arith) in
+      omega (arith, room, mul-le-mul_left (8 * key + 7 + 1) one)
+
+  -- and so do their trees
+  pub cube_child : {k : ℕ} {t : Spot} → IsChildOf cell k t → k < 8 → IsTreeOfCube m most (down - 1) (8 * key + k) (tree_under t)
+  unfolding Stands
+  cube_child {k} {t} is small =
+      let less : (q : ℕ → ℕ) → total q (child_under cell k) ≤ total q (tree_under s) =
+      λ q. subst (λ (y : Tree). total q (child_under cell k) ≤ total q y) (sym at.tree) (child_total q (child_under cell) k small) in
+      subst (IsTreeOfCube m most (down - 1) (8 * key + k)) (sym is.tree)
+      (record {
+        stands =
+            each_of_eight (λ j. Stands most (down - 1) (child_under cell j)) stands.2 stands.3 stands.4 stands.5 stands.6 stands.7 stands.8 stands.9 k small;
+        shallow = omega (arith, cube.shallow);
+        room = key_room key k down (2 ^ 64) cube_deep small cube.room;
+        heavy = cube.heavy;
+        light = omega (arith, less m.mass, cube.light);
+        few = omega (arith, less (λ n. 1), cube.few);
+      })

@@ -1,0 +1,176 @@
+-- The pull of a subtree: of no body, of one, of a cell that is taken whole, and of one that is opened, child by child.
+use Rattle.std.proofs.Common.{ℕ, suc, ◌+◌, ◌-◌, ◌*◌, ◌^◌, ◌<◌, ◌≤◌, ◌≡◌, ◌≢◌, true, false, not, List, length, refl, sym, ap, ◌∙◌, subst, arith, inl, inr}
+use Rattle.std.proofs.Math.Nat.{mul-le-mul_left}
+use Rattle.std.proofs.lemmas.Bool.{cases_Bool}
+use Rattle.std.proofs.lemmas.Bool.Decides.{eqb_tells}
+use Rattle.octant_code.specs.Space.{Site, squared_distance}
+use Rattle.bh_model.specs.Moments.{Matter, centre, mass_of, total}
+use Rattle.bh_model.specs.Pulls.{IsPullLaw, IsSmall, PullLaw, is_whole, no_pull, pull_from, term}
+use Rattle.bh_model.specs.Standing.{Stands}
+use Rattle.bh_model.specs.Trees.{Body, Cell, Empty, Tree, cell_of}
+use Rattle.bh_model.specs.declared.pull.Pull.{Pull}
+use Rattle.bh_model.proofs.Folds.{nth}
+use Rattle.bh_model.proofs.PullBounds.{StandsApart, pull-empty, pull-opened, pull-other, pull-own, pull-whole, pull_fits, small_more, small_none, whole_apart}
+use Rattle.bh_model.proofs.PullSums.{pull_upto, sum_scaled, upto_small}
+use Rattle.bh_model.proofs.Terms.{term-small}
+use Rattle.bh_model.proofs.Totals.{child_total, each_of_eight, sum_upto-le, total-cell, total_one}
+use Rattle.octree.specs.Spot.{Spot, child_under, tree_under}
+use Rattle.octree.specs.Subtree.{IsBodyAt, IsCellAt, IsChildOf, IsNothingAt}
+use Rattle.scene_file.specs.Bodies.{AreBodies}
+use Rattle.scene_file.specs.declared.bodies.Body.{Body as SceneBody}
+use Rattle.mass_moments.specs.Kept.{matter_of}
+use Rattle.force_walk.specs.Cubes.{IsTreeOfCube}
+use Rattle.force_walk.specs.Flat.{IsLaid, body_node, cell_node, is_opened}
+use Rattle.force_walk.specs.declared.node.WalkNode.{WalkNode}
+use Rattle.force_walk.proofs.Cubes.{cube_body, cube_deep, cube_massive}
+use Rattle.force_walk.proofs.Openings.{cell_opened, not_false, not_true}
+use Rattle.force_walk.proofs.Scenes.{bodies_apart}
+
+-- ---- how large the pull of a tree is
+
+-- the pulls of the children of a cell
+abbrev pub child_pull : PullLaw → Matter → ℕ → ℕ → ℕ → (ℕ → Tree) → ℕ → Pull
+child_pull law m n down key child k = pull_from law m n (down - 1) (8 * key + k) (child k)
+
+-- the pull of a tree is within g times its mass, and has at most as many terms as it has bodies
+abbrev IsBounded : PullLaw → Matter → Tree → Pull → Type 0
+IsBounded law m tree p = IsSmall (law.g * mass_of m tree) (total (λ n. 1) tree) p
+
+-- the same for the first children of a cell
+upto_bounded : (law : PullLaw) (m : Matter) (n down key : ℕ) (child : ℕ → Tree) (k : ℕ) → k ≤ 8 → ((j : ℕ) → j < 8 → IsBounded law m (child j) (child_pull law m n down key child j))
+    → IsBounded law m (cell_of child) (pull_upto (child_pull law m n down key child) k)
+upto_bounded law m n down key child k l each =
+    let b : ℕ → ℕ = λ j. law.g * mass_of m (child j) in
+    let c : ℕ → ℕ = λ j. total (λ n. 1) (child j) in
+    let scaled = sum_scaled law.g (λ j. mass_of m (child j)) 8 in
+    small_more _ _ _ _ _ (omega (arith, scaled, ap (λ y. law.g * y) (total-cell m.mass child), sum_upto-le b k 8 l)) (omega (arith, total-cell (λ n. 1) child, sum_upto-le c k 8 l))
+    (upto_small (child_pull law m n down key child) b c k (λ j i. each j (omega arith)))
+
+pub pull_bounded : (law : PullLaw) (m : Matter) (most n : ℕ) → StandsApart m most n → (tree : Tree) (down key : ℕ) → Stands most down tree → IsBounded law m tree (pull_from law m n down key tree)
+unfolding Stands total
+pull_bounded law m most n apart Empty down key stands = rw (pull-empty law m n down key) (small_none _ _)
+pull_bounded law m most n apart (Body j) down key stands =
+    elim (eqb_tells j n) [
+      | inl same ↦ rw (pull-own law m n down key j same.1) (small_none _ _)
+      | inr other ↦ rw (pull-other law m n down key j other.1) (term-small law (m.mass j) (m.site n) (m.site j) (omega (arith, apart.apart j stands other.1)))
+    ]
+pull_bounded law m most n apart (Cell a b c d e f g h) down key stands =
+    let kid : ℕ → Tree = nth a b c d e f g h in
+    let each : (k : ℕ) → k < 8 → IsBounded law m (kid k) (child_pull law m n down key kid k) =
+    each_of_eight (λ k. IsBounded law m (kid k) (child_pull law m n down key kid k)) (pull_bounded law m most n apart a (down - 1) (8 * key + 0) stands.2)
+    (pull_bounded law m most n apart b (down - 1) (8 * key + 1) stands.3) (pull_bounded law m most n apart c (down - 1) (8 * key + 2) stands.4)
+    (pull_bounded law m most n apart d (down - 1) (8 * key + 3) stands.5) (pull_bounded law m most n apart e (down - 1) (8 * key + 4) stands.6)
+    (pull_bounded law m most n apart f (down - 1) (8 * key + 5) stands.7) (pull_bounded law m most n apart g (down - 1) (8 * key + 6) stands.8)
+    (pull_bounded law m most n apart h (down - 1) (8 * key + 7) stands.9) in
+    elim (cases_Bool (is_whole law down key (m.site n) (centre m (cell_of kid)))) [
+      | inl taken ↦
+          rw (pull-whole law m n down key a b c d e f g h taken)
+          (small_more _ _ _ _ _ (omega arith) (omega (arith, stands.1))
+          (term-small law (mass_of m (cell_of kid)) (m.site n) (centre m (cell_of kid)) (omega (arith, whole_apart law down key (m.site n) (centre m (cell_of kid)) taken))))
+      | inr opened ↦ rw (pull-opened law m n down key a b c d e f g h opened) (upto_bounded law m n down key kid 8 (omega arith) each)
+    ]
+
+-- ---- no body and one body
+
+pub pull_none : {s : Spot} (law : PullLaw) (m : Matter) (n down key : ℕ) → IsNothingAt s → no_pull ≡ pull_from law m n down key (tree_under s)
+pull_none law m n down key at = sym (ap (pull_from law m n down key) at.tree ∙ pull-empty law m n down key)
+
+pub pull_own : {s : Spot} {j : ℕ} (law : PullLaw) (m : Matter) (n down key : ℕ) → IsBodyAt s j → j ≡ n → no_pull ≡ pull_from law m n down key (tree_under s)
+pull_own {s} {j} law m n down key at own = sym (ap (pull_from law m n down key) at.tree ∙ pull-own law m n down key j own)
+
+pub pull_other : {s : Spot} {j : ℕ} (law : PullLaw) (m : Matter) (n down key : ℕ) (from : Site) (one : WalkNode) (p : Pull) → IsBodyAt s j → j ≢ n → from ≡ m.site n → one ≡ body_node m j
+    → p ≡ term law one.mass from one.at → p ≡ pull_from law m n down key (tree_under s)
+pull_other {s} {j} law m n down key from one p at other f own q =
+    q ∙ ap (λ y. term law one.mass y one.at) f ∙ ap (λ (w : WalkNode). term law w.mass (m.site n) w.at) own
+    ∙ sym (ap (pull_from law m n down key) at.tree ∙ pull-other law m n down key j other)
+
+-- the node of another body is apart
+pub body_apart : (law : PullLaw) (bodies : List SceneBody) (n j : ℕ) (from : Site) (one : WalkNode) → AreBodies bodies → n < length bodies → j < length bodies → j ≢ n
+    → from ≡ (matter_of bodies).site n → one ≡ body_node (matter_of bodies) j → 0 < squared_distance from one.at + law.eps2
+body_apart law bodies n j from one rule n_in j_in other f own =
+    let away = (bodies_apart bodies n rule n_in).apart j j_in other in
+    omega (arith, away, ap (λ s. squared_distance s one.at) f, ap (λ (w : WalkNode). squared_distance ((matter_of bodies).site n) w.at) own)
+
+-- and can be walked
+pub body_laid : {m : Matter} {most down key : ℕ} {s : Spot} {j : ℕ} (one : WalkNode) → IsBodyAt s j → IsTreeOfCube m most down key (tree_under s) → one ≡ body_node m j → IsLaid one
+body_laid {m} {most} {down} {key} {s} {j} one at cube own =
+    subst IsLaid (sym own)
+    (record { heavy = cube.heavy j (cube_body at cube); light = omega (arith, cube.light, total_one m.mass (tree_under s) j at.tree); shallow = omega arith; no_cube = λ _. refl; long = omega arith })
+
+-- ---- a cell
+
+module _ {m : Matter} {most down key : ℕ} {s cell : Spot} (at : IsCellAt s cell) (cube : IsTreeOfCube m most down key (tree_under s)) (own : WalkNode) (is : own ≡ cell_node m down key 1 (tree_under s)) where
+  -- the node of a cell can be walked
+  pub cell_laid : IsLaid own
+  cell_laid =
+      subst IsLaid (sym is)
+      (record { heavy = cube_massive at cube; light = cube.light; shallow = cube.shallow; no_cube = λ flat. absurd (omega (arith, cube_deep at cube)); long = omega arith })
+
+  -- it is opened exactly where the cell of the tree is not taken whole
+  opened_is : (law : PullLaw) (from : Site) → is_opened law from own ≡ not (is_whole law down key from (centre m (tree_under s)))
+  opened_is law from =
+      ap (is_opened law from) is ∙ cell_opened law from (cell_node m down key 1 (tree_under s)) (λ (z : down ≡ 0). omega (arith, cube_deep at cube))
+
+  -- one that isn't is apart
+  pub cell_apart : (law : PullLaw) (from : Site) → is_opened law from own ≡ false → 0 < squared_distance from own.at + law.eps2
+  cell_apart law from taken =
+      omega (arith, whole_apart law down key from (centre m (tree_under s)) (not_true _ (sym (opened_is law from) ∙ taken)), ap (λ (w : WalkNode). squared_distance from w.at) is)
+
+  -- and its term is the pull
+  pub pull_taken : (law : PullLaw) (n : ℕ) (from : Site) (p : Pull) → from ≡ m.site n → is_opened law from own ≡ false → p ≡ term law own.mass from own.at
+      → p ≡ pull_from law m n down key (tree_under s)
+  pull_taken law n from p f taken q =
+      let child : ℕ → Tree = child_under cell in
+      let whole : is_whole law down key (m.site n) (centre m (tree_under s)) ≡ true = not_true _ (sym (opened_is law (m.site n)) ∙ ap (λ y. is_opened law y own) (sym f) ∙ taken) in
+      let P : Tree → Type 0 = λ t. is_whole law down key (m.site n) (centre m t) ≡ true → pull_from law m n down key t ≡ term law (mass_of m t) (m.site n) (centre m t) in
+      q ∙ ap (λ y. term law own.mass y own.at) f ∙ ap (λ (w : WalkNode). term law w.mass (m.site n) w.at) is
+      ∙ sym (subst P (sym at.tree) (pull-whole law m n down key (child 0) (child 1) (child 2) (child 3) (child 4) (child 5) (child 6) (child 7)) whole)
+
+  -- the pull of one that is opened is the sum of its children's
+  pub pull_opened : (law : PullLaw) (n k : ℕ) (from : Site) (sum : Pull) → from ≡ m.site n → is_opened law from own ≡ true → k ≡ 8
+      → sum ≡ pull_upto (child_pull law m n down key (child_under cell)) k → sum ≡ pull_from law m n down key (tree_under s)
+  pull_opened law n k from sum f opened all added =
+      let child : ℕ → Tree = child_under cell in
+      let not_whole : is_whole law down key (m.site n) (centre m (tree_under s)) ≡ false = not_false _ (sym (opened_is law (m.site n)) ∙ ap (λ y. is_opened law y own) (sym f) ∙ opened) in
+      let P : Tree → Type 0 = λ t. is_whole law down key (m.site n) (centre m t) ≡ false → pull_from law m n down key t ≡ pull_upto (child_pull law m n down key child) 8 in
+      added ∙ ap (pull_upto (child_pull law m n down key child)) all
+      ∙ sym (subst P (sym at.tree) (pull-opened law m n down key (child 0) (child 1) (child 2) (child 3) (child 4) (child 5) (child 6) (child 7)) not_whole)
+
+-- what the sum of one more owes
+pub record Fits (sum part : Pull) : Type 0 where
+  pub one : IsSmall (2 ^ 120) (2 ^ 32) sum
+  pub other : IsSmall (2 ^ 120) (2 ^ 32) part
+  pub few : sum.met + part.met < 2 ^ 32
+
+module _ {m : Matter} {most down key : ℕ} {s cell child : Spot} {k : ℕ} (at : IsCellAt s cell) (cube : IsTreeOfCube m most down key (tree_under s)) (is : IsChildOf cell k child) (small : k < 8) where
+  -- the pull of a child
+  pub child_part : (law : PullLaw) (n j : ℕ) (part : Pull) → j ≡ k → part ≡ pull_from law m n (down - 1) (8 * key + j) (tree_under child) → part ≡ child_pull law m n down key (child_under cell) k
+  child_part law n j part same e =
+      e ∙ ap (λ i. pull_from law m n (down - 1) (8 * key + i) (tree_under child)) same ∙ ap (pull_from law m n (down - 1) (8 * key + k)) is.tree
+
+  -- it fits beside the sum so far
+  pub parts_fit : (law : PullLaw) (n : ℕ) (sum part : Pull) → IsPullLaw law → StandsApart m most n → sum ≡ pull_upto (child_pull law m n down key (child_under cell)) k
+      → part ≡ child_pull law m n down key (child_under cell) k → Fits sum part
+  unfolding Stands
+  parts_fit law n sum part rule apart sum_is part_is =
+      let child_of : ℕ → Tree = child_under cell in
+      let pulls : ℕ → Pull = child_pull law m n down key child_of in
+      let stands : Stands most down (cell_of child_of) = subst (Stands most down) at.tree cube.stands in
+      let each : (j : ℕ) → j < 8 → IsBounded law m (child_of j) (pulls j) =
+      each_of_eight (λ j. IsBounded law m (child_of j) (pulls j)) (pull_bounded law m most n apart (child_of 0) (down - 1) (8 * key + 0) stands.2)
+      (pull_bounded law m most n apart (child_of 1) (down - 1) (8 * key + 1) stands.3) (pull_bounded law m most n apart (child_of 2) (down - 1) (8 * key + 2) stands.4)
+      (pull_bounded law m most n apart (child_of 3) (down - 1) (8 * key + 3) stands.5) (pull_bounded law m most n apart (child_of 4) (down - 1) (8 * key + 4) stands.6)
+      (pull_bounded law m most n apart (child_of 5) (down - 1) (8 * key + 5) stands.7) (pull_bounded law m most n apart (child_of 6) (down - 1) (8 * key + 6) stands.8)
+      (pull_bounded law m most n apart (child_of 7) (down - 1) (8 * key + 7) stands.9) in
+      let before = upto_bounded law m n down key child_of k (omega arith) each in
+      let after = upto_bounded law m n down key child_of (suc k) (omega arith) each in
+      let mass : mass_of m (cell_of child_of) < 2 ^ 40 = omega (arith, cube.light, ap (mass_of m) at.tree) in
+      let few : total (λ n. 1) (cell_of child_of) ≤ 65536 = omega (arith, cube.few, ap (total (λ n. 1)) at.tree) in
+      let fits = pull_fits law.g (mass_of m (cell_of child_of)) rule.g_fits mass in
+      let one = each k small in
+      let less = mul-le-mul_left law.g (child_total m.mass child_of k small) in
+      record {
+        one = subst (λ (p : Pull). IsSmall (2 ^ 120) (2 ^ 32) p) (sym sum_is) (small_more _ _ _ _ _ (omega arith) (omega arith) before);
+        other = subst (λ (p : Pull). IsSmall (2 ^ 120) (2 ^ 32) p) (sym part_is) (small_more _ _ _ _ _ (omega arith) (omega (arith, child_total (λ n. 1) child_of k small)) one);
+        few = omega (arith, after.met, ap (λ (p : Pull). p.met) sum_is, ap (λ (p : Pull). p.met) part_is);
+      }
