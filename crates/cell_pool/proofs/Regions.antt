@@ -16,13 +16,15 @@ taken items new x spent room e low h =
     }
 
 -- a cell is given back
-pub given : (items : List ℕ) (c spent room : ℕ) → spent ≤ length items → IsRegion record { cells = drop spent items; room = room } → (IsIn (drop spent items) c → ⊥)
+pub given : (items : List ℕ) (c spent room : ℕ) → spent ≤ length items → IsRegion record { cells = drop spent items; room = room }
+    → (IsIn (drop spent items) c → ⊥)
     → length (drop spent items) < room → IsRegion record { cells = drop spent (items ++ c ∷ []); room = room }
 given items c spent room low h absent place =
     let parts : drop spent (items ++ c ∷ []) ≡ drop spent items ++ c ∷ [] = drop-append-le spent items (c ∷ []) low in
     record {
       once = subst NoneTwice (sym parts)
-          (none_twice-append (drop spent items) (c ∷ []) h.once ((λ i. i), tt) (λ n i j. elim j [ inl e ↦ absent (subst (IsIn (drop spent items)) e i) | inr k ↦ k ]));
+          (none_twice-append (drop spent items) (c ∷ []) h.once ((λ i. i), tt)
+              (λ n i j. elim j [ inl e ↦ absent (subst (IsIn (drop spent items)) e i) | inr k ↦ k ]));
       fits = omega (arith, place, ap length parts, length-append (drop spent items) (c ∷ []));
     }
 
@@ -42,7 +44,8 @@ cut_front items spent k room low few h =
     }
 
 -- those from a place on are parted off
-pub cut_back : (items : List ℕ) (spent k n room : ℕ) → spent ≤ k → k ≤ length items → length items ≤ k + n → IsRegion record { cells = drop spent items; room = room }
+pub cut_back : (items : List ℕ) (spent k n room : ℕ) → spent ≤ k → k ≤ length items → length items ≤ k + n
+    → IsRegion record { cells = drop spent items; room = room }
     → IsRegion record { cells = drop k items; room = n }
 cut_back items spent k n room low few fit h = record {
   once = once_back (drop spent (take k items)) (drop k items) (subst NoneTwice (parted items spent k low few) h.once);
@@ -55,6 +58,7 @@ pub spent_more : (items : List ℕ) (spent n room : ℕ) → n ≤ length (drop 
 spent_more items spent n room few h =
     let rest : drop n (drop spent items) ≡ drop (spent + n) items = drop-drop n spent items in
     record {
-      once = subst NoneTwice rest (once_back (take n (drop spent items)) (drop n (drop spent items)) (subst NoneTwice (sym (take-append-drop n (drop spent items))) h.once));
+      once = subst NoneTwice rest
+          (once_back (take n (drop spent items)) (drop n (drop spent items)) (subst NoneTwice (sym (take-append-drop n (drop spent items))) h.once));
       fits = omega (arith, h.fits, few, ap length rest, length-drop n (drop spent items));
     }

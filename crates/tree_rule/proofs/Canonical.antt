@@ -90,7 +90,8 @@ none_under : (site : ℕ → Site) (at : ℕ → ℕ) (top base : ℕ) (P : ℕ 
 none_under site at top base P bodies h level key x =
     filter-none (λ n. eqb (key_of (site n) level) key) bodies
     (λ n i e.
-    let here : IsWordOf at top base P (key_of (site n) level) 0 = subst (λ (y : ℕ). IsWordOf at top base P y 0) (sym (eqb-true (key_of (site n) level) key e)) x in
+    let here : IsWordOf at top base P (key_of (site n) level) 0 =
+    subst (λ (y : ℕ). IsWordOf at top base P y 0) (sym (eqb-true (key_of (site n) level) key e)) x in
     elim (word_over site at top base P (IsIn bodies) (IsIn bodies) h n level 0 i here) [
       | inl z ↦ omega arith
       | inr z ↦ omega (arith, z.2)
@@ -105,7 +106,8 @@ one_under site at top base P bodies h apart level key n low high x =
     let k : key_of (site n) level ≡ key = sym (f.1.2 ∙ ap (key_of (site n)) l) in
     filter-one (λ m. eqb (key_of (site m) level) key) bodies n apart f.0 (eq-eqb (key_of (site n) level) key k)
     (λ m i e.
-    let here : IsWordOf at top base P (key_of (site m) level) (body_word n) = subst (λ (y : ℕ). IsWordOf at top base P y (body_word n)) (sym (eqb-true (key_of (site m) level) key e)) x in
+    let here : IsWordOf at top base P (key_of (site m) level) (body_word n) =
+    subst (λ (y : ℕ). IsWordOf at top base P y (body_word n)) (sym (eqb-true (key_of (site m) level) key e)) x in
     elim (word_over site at top base P (IsIn bodies) (IsIn bodies) h m level (body_word n) i here) [
       | inl z ↦ omega arith
       | inr z ↦ absurd (omega (arith, z.2))
@@ -145,14 +147,16 @@ reads site at top base P bodies h apart (suc below) level key w sum low high x (
     let f = h.names_cell key c here in
     let s : IsShared site (IsIn bodies) key = subst (λ (y : ℕ). IsShared site (IsIn bodies) y) f.1 (h.shared c f.0) in
     let two = two_under site bodies level key low high s in
-    let child : (k : ℕ) → k < 8 → tree_from at (suc below) (at (child_place c k)) ≡ octree_from site below (suc level) (in_octant site level k (under_key site level key bodies)) =
+    let child : (k : ℕ) → k < 8
+    → tree_from at (suc below) (at (child_place c k)) ≡ octree_from site below (suc level) (in_octant site level k (under_key site level key bodies)) =
     λ k small.
     let below_it : IsWordOf at top base P (8 * key + k) (at (child_place c k)) = Child c k f.0 small (ap (λ y. 8 * y + k) (sym f.1)) refl in
     reads site at top base P bodies h apart below (suc level) (8 * key + k) (at (child_place c k)) (omega arith) (omega (arith, pow-suc 8 level))
     (omega (arith, pow-suc 8 level)) below_it (word_is (at (child_place c k)))
     ∙ ap (octree_from site below (suc level)) (sym (under_child site level key k bodies small)) in
     ap (tree_from at (suc (suc below))) e ∙ tree-cell at (suc below) c
-    ∙ cell_of-same (λ k. tree_from at (suc below) (at (child_place c k))) (λ k. octree_from site below (suc level) (in_octant site level k (under_key site level key bodies))) child
+    ∙ cell_of-same (λ k. tree_from at (suc below) (at (child_place c k)))
+    (λ k. octree_from site below (suc level) (in_octant site level k (under_key site level key bodies))) child
     ∙ sym (octree-two site below level (under_key site level key bodies) two)
 
 -- all bodies lie under the root's key

@@ -13,7 +13,8 @@ abbrev pub OnlyAt : ℕ → (ℕ → Type 0) → ℕ → ℕ → Type 0
 OnlyAt a Q k d = (k ≡ a) × Q d
 
 -- an empty word stands for an impossible set
-pub stands_empty : (site : ℕ → Site) (at : ℕ → ℕ) (w base : ℕ) (P B : ℕ → Type 0) → w ≡ 0 → ((d : ℕ) → P d → ⊥) → ((d : ℕ) → B d → ⊥) → StandsFor site at w base P B
+pub stands_empty : (site : ℕ → Site) (at : ℕ → ℕ) (w base : ℕ) (P B : ℕ → Type 0) → w ≡ 0 → ((d : ℕ) → P d → ⊥) → ((d : ℕ) → B d → ⊥)
+    → StandsFor site at w base P B
 stands_empty site at w base P B e p b =
     subst (λ (y : ℕ). StandsFor site at y base P B) (sym e)
     (stands_same site at 0 base Nothing P Nothing B (λ d. ((λ x. absurd x), p d)) (λ d. ((λ x. absurd x), b d)) (stands_none site at base))
@@ -27,13 +28,17 @@ link_stands site at c key a Q B e two small part others =
       key_is = e;
       part_stands = λ k l. elim (same_or_not k a) [
         | inl s ↦ subst (λ (y : ℕ). StandsFor site at (at (child_place c y)) (8 * key + y) (OnlyAt a Q k) (OnlyAt a B k)) (sym s)
-            (stands_same site at (at (child_place c a)) (8 * key + a) Q (OnlyAt a Q k) B (OnlyAt a B k) (λ d. ((λ q. (s, q)), (λ q. q.1))) (λ d. ((λ q. (s, q)), (λ q. q.1))) part)
+            (stands_same site at (at (child_place c a)) (8 * key + a) Q (OnlyAt a Q k) B (OnlyAt a B k) (λ d. ((λ q. (s, q)), (λ q. q.1)))
+            (λ d. ((λ q. (s, q)), (λ q. q.1))) part)
         | inr o ↦ stands_empty site at (at (child_place c k)) (8 * key + k) (OnlyAt a Q k) (OnlyAt a B k) (others k l o) (λ d q. o q.0) (λ d q. o q.0)
       ];
       two = shared_more (λ n b. record { part = a; small = small; inside = (refl, b) }) two;
     } in
     stands_same site at (cell_word c) key (ItOr c (OnlyAt a Q)) (λ d. (d ≡ c) ⊎ Q d) (Among (OnlyAt a B)) B
-    (λ d. ((λ q. elim q [ inl x ↦ inl x | inr x ↦ inr x.inside.1 ]), (λ q. elim q [ inl x ↦ inl x | inr x ↦ inr (record { part = a; small = small; inside = (refl, x) }) ])))
+    (λ d. (
+      (λ q. elim q [ inl x ↦ inl x | inr x ↦ inr x.inside.1 ]),
+      (λ q. elim q [ inl x ↦ inl x | inr x ↦ inr (record { part = a; small = small; inside = (refl, x) }) ]),
+    ))
     (λ n. ((λ q. q.inside.1), (λ q. record { part = a; small = small; inside = (refl, q) })))
     (cell_stands site at c key (OnlyAt a Q) (OnlyAt a B) parts)
 
@@ -62,7 +67,8 @@ fork_stands site at c key a b x n e two sa sb differ ux un wa wb others =
             subst (λ (y : ℕ). StandsFor site at (at (child_place c y)) (8 * key + y) (NoCell k) (AtTwo a x b n k)) (sym s)
             (subst (λ (y : ℕ). StandsFor site at y (8 * key + a) (NoCell k) (AtTwo a x b n k)) (sym wa)
             (stands_same site at (body_word x) (8 * key + a) Nothing (NoCell k) (Only x) (AtTwo a x b n k) (λ d. ((λ q. q), (λ q. q)))
-            (λ m. ((λ q. inl (s, q)), (λ q. elim q [ inl z ↦ z.1 | inr z ↦ absurd (differ (sym s ∙ z.0)) ]))) (stands_body site at (8 * key + a) x (Only x) ux)))
+            (λ m. ((λ q. inl (s, q)), (λ q. elim q [ inl z ↦ z.1 | inr z ↦ absurd (differ (sym s ∙ z.0)) ])))
+            (stands_body site at (8 * key + a) x (Only x) ux)))
         | inr o ↦ elim (same_or_not k b) [
           | inl s ↦
               subst (λ (y : ℕ). StandsFor site at (at (child_place c y)) (8 * key + y) (NoCell k) (AtTwo a x b n k)) (sym s)

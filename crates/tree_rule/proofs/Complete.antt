@@ -32,22 +32,26 @@ cells_below site at top base P B h s deep c named (suc f) level w a b x =
           let g = h.names_cell (key_of s level) up.cell up.named in
           let child : IsWordOf at top base P (key_of s (suc level)) (at (child_place up.cell (octant_of s level))) =
           Child up.cell (octant_of s level) up.is_cell (octant-small s level) (key-suc s level ∙ ap (λ y. 8 * y + octant_of s level) (sym g.1)) refl in
-          let r = cells_below site at top base P B h s deep c named f (suc level) (at (child_place up.cell (octant_of s level))) (omega arith) (omega arith) child in
+          let r = cells_below site at top base P B h s deep c named f (suc level) (at (child_place up.cell (octant_of s level))) (omega arith)
+          (omega arith) child in
           subst (λ (z : List ℕ). IsIn z c) (sym (cells-cell at f w up.cell is))
           (inr (joined_in (λ k. cells_from at f (at (child_place up.cell k))) 8 (octant_of s level) c (octant-small s level) r))
       | inr g ↦
           let same : level ≡ deep = omega arith in
-          let here : IsWordOf at top base P (key_of s level) (cell_word c) = subst (λ (z : ℕ). IsWordOf at top base P (key_of s z) (cell_word c)) (sym same) named in
+          let here : IsWordOf at top base P (key_of s level) (cell_word c) =
+          subst (λ (z : ℕ). IsWordOf at top base P (key_of s z) (cell_word c)) (sym same) named in
           let is : w ≡ cell_word c = one_word site at top base P B B h (key_of s level) w (cell_word c) x here in
           subst (λ (z : List ℕ). IsIn z c) (sym (cells-cell at f w c is)) (inl refl)
     ]
 
 -- the cells of the set are those of the list that is read from the top word
-pub cells_complete : (site : ℕ → Site) (at : ℕ → ℕ) (top base : ℕ) (P B : ℕ → Type 0) → 1 ≤ base → StandsFor site at top base P B → (c : ℕ) → P c ↔ IsIn (cells_from at 22 top) c
+pub cells_complete : (site : ℕ → Site) (at : ℕ → ℕ) (top base : ℕ) (P B : ℕ → Type 0) → 1 ≤ base → StandsFor site at top base P B → (c : ℕ)
+    → P c ↔ IsIn (cells_from at 22 top) c
 cells_complete site at top base P B low h c = (
   λ p.
       let f = sharer (h.shared c p) in
-      let named : IsWordOf at top base P (key_of (site f.one) f.level) (cell_word c) = subst (λ (z : ℕ). IsWordOf at top base P z (cell_word c)) f.one_under (h.cell_named c p) in
+      let named : IsWordOf at top base P (key_of (site f.one) f.level) (cell_word c) =
+      subst (λ (z : ℕ). IsWordOf at top base P z (cell_word c)) f.one_under (h.cell_named c p) in
       let t = below_top site at top base P B B h (site f.one) f.level (cell_word c) named in
       cells_below site at top base P B h (site f.one) f.level c named 22 t.top_level top t.above (omega (arith, f.shallow)) (Top (sym t.is_base) refl),
   λ i.
@@ -57,12 +61,15 @@ cells_complete site at top base P B low h c = (
 
 -- words that stand for a set name exactly the cells that are read and the bodies of their tree, beside others that are no cells of theirs
 pub exact_of_stands_for : (site : ℕ → Site) (at : ℕ → ℕ) (root base : ℕ) (P B : ℕ → Type 0) (others : List ℕ) → 1 ≤ base → StandsFor site at (at root) base P B
-    → NoneTwice others → ((c : ℕ) → P c → IsIn others c → ⊥) → NamesExactly site at root base (cells_from at 22 (at root)) others (order (tree_from at 22 (at root)))
+    → NoneTwice others → ((c : ℕ) → P c → IsIn others c → ⊥)
+    → NamesExactly site at root base (cells_from at 22 (at root)) others (order (tree_from at 22 (at root)))
 exact_of_stands_for site at root base P B others low h once apart =
     let top : ℕ = at root in
     let cells = cells_complete site at (at root) base P B low h in
     exact_of_stands site at root base (cells_from at 22 (at root)) others (order (tree_from at 22 (at root)))
-    (stands_same site at (at root) base P (IsIn (cells_from at 22 (at root))) B (IsIn (order (tree_from at 22 (at root)))) cells (order_members site at (at root) base P B h) h)
+    (stands_same site at (at root) base P (IsIn (cells_from at 22 (at root))) B (IsIn (order (tree_from at 22 (at root)))) cells
+    (order_members site at (at root) base P B h) h)
     (none_twice-append (cells_from at 22 (at root)) others
-    (cells_once at (at root) base low (sound_of_stands site at (at root) base P B h) 22 base (at root) (HereAs base (at root) refl refl) (word_is (at root))) once
+    (cells_once at (at root) base low (sound_of_stands site at (at root) base P B h) 22 base (at root) (HereAs base (at root) refl refl)
+    (word_is (at root))) once
     (λ c i j. apart c ((cells c).1 i) j))

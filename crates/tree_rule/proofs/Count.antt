@@ -42,7 +42,8 @@ pub child_in_child : (key i j : ℕ) → 1 ≤ key → i < 8 → j < 8 → IsKey
 child_in_child key i j pos p q h = child_in key i j (8 * key + j) pos p q refl h
 
 -- the cells that are read below a word that names something
-cells-named : (at : ℕ → ℕ) (below w : ℕ) (x : Named) → named_by w ≡ x → cells_from at (suc below) w ≡ cells_of_named (λ y. joined (λ k. cells_from at below (at (child_place y k))) 8) x
+cells-named : (at : ℕ → ℕ) (below w : ℕ) (x : Named) → named_by w ≡ x
+    → cells_from at (suc below) w ≡ cells_of_named (λ y. joined (λ k. cells_from at below (at (child_place y k))) 8) x
 unfolding cells_from
 cells-named at below w x e = ap (λ z. cells_of_named (λ y. joined (λ k. cells_from at below (at (child_place y k))) 8) z) e
 
@@ -85,7 +86,8 @@ unfolding cells_from
 once_zero at w = tt
 
 -- each cell that is read below a word is read with a key of its cube
-pub cells_read : (at : ℕ → ℕ) (top base below key w d : ℕ) → IsReachedAs at top base key w → WordIs w → IsIn (cells_from at below w) d → IsReadIn at top base key d
+pub cells_read : (at : ℕ → ℕ) (top base below key w d : ℕ) → IsReachedAs at top base key w → WordIs w → IsIn (cells_from at below w) d
+    → IsReadIn at top base key d
 cells_read at top base zero key w d r v i = absurd (no_cells at w d i)
 cells_read at top base (suc below) key w d r (NoBody e) i = absurd (subst (λ (y : List ℕ). IsIn y d) (cells-empty at (suc below) w e) i)
 cells_read at top base (suc below) key w d r (OneBody n e) i = absurd (subst (λ (y : List ℕ). IsIn y d) (cells-body at (suc below) w n e) i)
@@ -103,7 +105,8 @@ cells_read at top base (suc below) key w d r (ACell c e) i =
     ]
 
 -- no cell is read twice
-pub cells_once : (at : ℕ → ℕ) (top base : ℕ) → 1 ≤ base → IsSound at top base → (below key w : ℕ) → IsReachedAs at top base key w → WordIs w → NoneTwice (cells_from at below w)
+pub cells_once : (at : ℕ → ℕ) (top base : ℕ) → 1 ≤ base → IsSound at top base → (below key w : ℕ) → IsReachedAs at top base key w → WordIs w
+    → NoneTwice (cells_from at below w)
 cells_once at top base pos h zero key w r v = once_zero at w
 cells_once at top base pos h (suc below) key w r (NoBody e) = subst NoneTwice (sym (cells-empty at (suc below) w e)) tt
 cells_once at top base pos h (suc below) key w r (OneBody n e) = subst NoneTwice (sym (cells-body at (suc below) w n e)) tt
@@ -111,7 +114,8 @@ cells_once at top base pos h (suc below) key w r (ACell c e) =
     let kids : ℕ → List ℕ = λ k. cells_from at below (at (child_place c k)) in
     let r' : IsReachedAs at top base key (cell_word c) = subst (λ (y : ℕ). IsReachedAs at top base key y) e r in
     let one : 1 ≤ key = omega (arith, keys_grow at top base key w r) in
-    let kid : (k : ℕ) → k < 8 → IsReachedAs at top base (8 * key + k) (at (child_place c k)) = λ k l. BelowAs c k key (8 * key + k) (at (child_place c k)) r' l refl refl in
+    let kid : (k : ℕ) → k < 8
+    → IsReachedAs at top base (8 * key + k) (at (child_place c k)) = λ k l. BelowAs c k key (8 * key + k) (at (child_place c k)) r' l refl refl in
     let inner : (k d : ℕ) → k < 8 → IsIn (kids k) d → IsReadIn at top base (8 * key + k) d = λ k d l i.
     cells_read at top base below (8 * key + k) (at (child_place c k)) d (kid k l) (word_is (at (child_place c k))) i in
     subst NoneTwice (sym (cells-cell at below w c e)) (

@@ -17,8 +17,10 @@ abbrev pub Stands : (ℕ → Site) → (ℕ → ℕ) → ℕ → ℕ → List �
 Stands site at root base cells bodies = StandsFor site at (at root) base (IsIn cells) (IsIn bodies)
 
 -- a published word is the word of its key
-pub word_published : (at : ℕ → ℕ) (root base : ℕ) (cells : List ℕ) (key place w : ℕ) → IsPublished at root base cells key place → at place ≡ w → IsWordOf at (at root) base (IsIn cells) key w
-word_published at root base cells key place w p e = subst (λ (y : ℕ). IsWordOf at (at root) base (IsIn cells) key y) e (word_at_place at root base (IsIn cells) key place p)
+pub word_published : (at : ℕ → ℕ) (root base : ℕ) (cells : List ℕ) (key place w : ℕ) → IsPublished at root base cells key place → at place ≡ w
+    → IsWordOf at (at root) base (IsIn cells) key w
+word_published at root base cells key place w p e =
+    subst (λ (y : ℕ). IsWordOf at (at root) base (IsIn cells) key y) e (word_at_place at root base (IsIn cells) key place p)
 
 -- bodies of a list that lie under the key of a cell share its cube
 pub shared_of_more : (site : ℕ → Site) (bodies : List ℕ) (key : ℕ) → IsCellKey key → HasMoreUnder site bodies key → IsShared site (IsIn bodies) key
@@ -31,8 +33,13 @@ shared_of_more site bodies key l t = record {
 -- a cube that bodies share is one of a cell's level
 pub level_of_shared : {site : ℕ → Site} {IsBody : ℕ → Type 0} {key : ℕ} → IsShared site IsBody key → IsCellKey key
 level_of_shared {site = site} shared =
-    let f = sharer shared in
-    (f.level, f.shallow, subst (λ (x : ℕ). 8 ^ f.level ≤ x) (sym f.one_under) (key-low (site f.one) f.level), subst (λ (x : ℕ). x < 2 * 8 ^ f.level) (sym f.one_under) (key-high (site f.one) f.level))
+    let f = sharer shared in (
+      f.level,
+      f.shallow,
+      subst (λ (x : ℕ). 8 ^ f.level ≤ x) (sym f.one_under) (key-low (site f.one) f.level),
+      subst (λ (x : ℕ). x < 2 * 8 ^ f.level)
+          (sym f.one_under) (key-high (site f.one) f.level),
+    )
 
 -- bodies that share a cube lie under its key
 pub more_of_shared : (site : ℕ → Site) (bodies : List ℕ) (key : ℕ) → IsShared site (IsIn bodies) key → HasMoreUnder site bodies key
@@ -71,7 +78,8 @@ module _ (site : ℕ → Site) (at : ℕ → ℕ) (root base : ℕ) (cells other
   }
 
   -- of a word of one key alone there is one place
-  one_spot : Stands site at root base cells bodies → (key other place there : ℕ) → IsPublished at root base cells key place → IsPublished at root base cells other there → other ≡ key → there ≡ place
+  one_spot : Stands site at root base cells bodies → (key other place there : ℕ) → IsPublished at root base cells key place
+      → IsPublished at root base cells other there → other ≡ key → there ≡ place
   one_spot h key other place there p q e =
       one_place site at root base (IsIn cells) (IsIn bodies) (IsIn bodies) h key there place (subst (λ (z : ℕ). IsPublished at root base cells z there) e q) p
 
@@ -89,7 +97,8 @@ module _ (site : ℕ → Site) (at : ℕ → ℕ) (root base : ℕ) (cells other
           published = o.of_key;
           named = names_cell (at o.place) c (sym o.holds);
           no_other = λ key other x e.
-              one_spot h (at (key_place c)) key o.place other o.of_key x (sym (h.names_cell key c (word_here key other (cell_word c) x (word_of_cell (at other) c e))).1);
+              one_spot h (at (key_place c)) key o.place other o.of_key x
+              (sym (h.names_cell key c (word_here key other (cell_word c) x (word_of_cell (at other) c e))).1);
         };
     body_once = λ n b.
         let f = h.body_named n b in
@@ -101,7 +110,8 @@ module _ (site : ℕ → Site) (at : ℕ → ℕ) (root base : ℕ) (cells other
           named = names_body (at o.place) n (sym o.holds);
           no_other = λ key other x e.
               one_spot h (key_of (site n) f.level) key o.place other o.of_key x
-              (one_key_of_body site at (at root) base (IsIn cells) (IsIn bodies) (IsIn bodies) h n key (key_of (site n) f.level) (word_here key other (body_word n) x (word_of_body (at other) n e)) f.named);
+              (one_key_of_body site at (at root) base (IsIn cells) (IsIn bodies) (IsIn bodies) h n key (key_of (site n) f.level)
+              (word_here key other (body_word n) x (word_of_body (at other) n e)) f.named);
         };
     names_body = λ key place n x e. h.names_body key n (word_here key place (body_word n) x (word_of_body (at place) n e));
     more_under = λ c p. more_of_shared site bodies (at (key_place c)) (h.shared c p);

@@ -23,7 +23,8 @@ below_top site at top base IsCell IsBody IsAll h s zero w (Child c k p l e v) =
 below_top site at top base IsCell IsBody IsAll h s (suc level) w (Top k v) = record { top_level = suc level; above = omega arith; is_base = sym k }
 below_top site at top base IsCell IsBody IsAll h s (suc level) w (Child c k p l e v) =
     let same : at (key_place c) ≡ key_of s level = same_parent _ _ k (octant_of s level) l (octant-small s level) (sym e ∙ key-suc s level) in
-    let up : IsWordOf at top base IsCell (key_of s level) (cell_word c) = subst (λ (x : ℕ). IsWordOf at top base IsCell x (cell_word c)) same (h.cell_named c p) in
+    let up : IsWordOf at top base IsCell (key_of s level) (cell_word c) =
+    subst (λ (x : ℕ). IsWordOf at top base IsCell x (cell_word c)) same (h.cell_named c p) in
     let b = below_top site at top base IsCell IsBody IsAll h s level (cell_word c) up in
     record { top_level = b.top_level; above = omega (arith, b.above); is_base = b.is_base }
 
@@ -42,7 +43,8 @@ cell_above site at top base IsCell IsBody IsAll h s (suc level) w upper tl (Top 
     let same : suc level ≡ tl = same_level s s (suc level) tl (k ∙ b) in absurd (omega arith)
 cell_above site at top base IsCell IsBody IsAll h s (suc level) w upper tl (Child c k pc l e v) b p q =
     let same : at (key_place c) ≡ key_of s level = same_parent _ _ k (octant_of s level) l (octant-small s level) (sym e ∙ key-suc s level) in
-    let up : IsWordOf at top base IsCell (key_of s level) (cell_word c) = subst (λ (x : ℕ). IsWordOf at top base IsCell x (cell_word c)) same (h.cell_named c pc) in
+    let up : IsWordOf at top base IsCell (key_of s level) (cell_word c) =
+    subst (λ (x : ℕ). IsWordOf at top base IsCell x (cell_word c)) same (h.cell_named c pc) in
     elim (cases_lt upper level) [
       | inl r ↦ cell_above site at top base IsCell IsBody IsAll h s level (cell_word c) upper tl up b p r
       | inr r ↦
@@ -56,7 +58,8 @@ pub child_below_top : (site : ℕ → Site) (at : ℕ → ℕ) (top base : ℕ) 
 child_below_top site at top base IsCell IsBody IsAll h c k p e =
     let f = sharer (h.shared c p) in
     let s : Site = site f.one in
-    let up : IsWordOf at top base IsCell (key_of s f.level) (cell_word c) = subst (λ (x : ℕ). IsWordOf at top base IsCell x (cell_word c)) f.one_under (h.cell_named c p) in
+    let up : IsWordOf at top base IsCell (key_of s f.level) (cell_word c) =
+    subst (λ (x : ℕ). IsWordOf at top base IsCell x (cell_word c)) f.one_under (h.cell_named c p) in
     let b = below_top site at top base IsCell IsBody IsAll h s f.level (cell_word c) up in
     elim (cases_lt b.top_level f.level) [
       | inl r ↦ omega (arith, key-deeper s s b.top_level f.level r, f.one_under, b.is_base, e, key-positive s f.level)
@@ -69,8 +72,10 @@ child_below_top site at top base IsCell IsBody IsAll h c k p e =
 pub one_word : (site : ℕ → Site) (at : ℕ → ℕ) (top base : ℕ) (IsCell IsBody IsAll : ℕ → Type 0) → StandsAmid site at top base IsCell IsBody IsAll
     → (key v w : ℕ) → IsWordOf at top base IsCell key v → IsWordOf at top base IsCell key w → v ≡ w
 one_word site at top base IsCell IsBody IsAll h key v w (Top k e) (Top k' e') = e ∙ sym e'
-one_word site at top base IsCell IsBody IsAll h key v w (Top k e) (Child c j p l k' e') = absurd (child_below_top site at top base IsCell IsBody IsAll h c j p (sym k' ∙ k))
-one_word site at top base IsCell IsBody IsAll h key v w (Child c j p l k' e') (Top k e) = absurd (child_below_top site at top base IsCell IsBody IsAll h c j p (sym k' ∙ k))
+one_word site at top base IsCell IsBody IsAll h key v w (Top k e) (Child c j p l k' e') =
+    absurd (child_below_top site at top base IsCell IsBody IsAll h c j p (sym k' ∙ k))
+one_word site at top base IsCell IsBody IsAll h key v w (Child c j p l k' e') (Top k e) =
+    absurd (child_below_top site at top base IsCell IsBody IsAll h c j p (sym k' ∙ k))
 one_word site at top base IsCell IsBody IsAll h key v w (Child c j p l k e) (Child d i q m k' e') =
     let both : 8 * at (key_place c) + j ≡ 8 * at (key_place d) + i = sym k ∙ k' in
     let same : c ≡ d = h.keys_differ c d p q (same_parent _ _ j i l m both) in
@@ -93,11 +98,13 @@ word_over site at top base IsCell IsBody IsAll h n level w b x =
         | inl r ↦
             let t = below_top site at top base IsCell IsBody IsAll h s f.level (body_word n) f.named in
             let up = cell_above site at top base IsCell IsBody IsAll h s level w f.level t.top_level x t.is_base t.above r in
-            let odd : body_word n ≡ cell_word up.cell = one_word site at top base IsCell IsBody IsAll h (key_of s f.level) (body_word n) (cell_word up.cell) f.named up.named in
+            let odd : body_word n ≡ cell_word up.cell =
+            one_word site at top base IsCell IsBody IsAll h (key_of s f.level) (body_word n) (cell_word up.cell) f.named up.named in
             absurd (omega arith)
         | inr r ↦
             let same : f.level ≡ level = omega arith in
-            let there : IsWordOf at top base IsCell (key_of s level) (body_word n) = subst (λ (y : ℕ). IsWordOf at top base IsCell (key_of s y) (body_word n)) same f.named in
+            let there : IsWordOf at top base IsCell (key_of s level) (body_word n) =
+            subst (λ (y : ℕ). IsWordOf at top base IsCell (key_of s y) (body_word n)) same f.named in
             inl (one_word site at top base IsCell IsBody IsAll h (key_of s level) w (body_word n) x there)
       ]
     ]

@@ -11,7 +11,8 @@ use Rattle.tree_rule.specs.declared.words.TheConstants.{FIRST_PLACE}
 use Rattle.tree_rule.specs.Words.{Below, Here, IsReached, body_word, cell_word, child_place, key_place}
 
 -- the word at the place of a key is the key's
-pub word_at_place : (at : ℕ → ℕ) (first base : ℕ) (IsCell : ℕ → Type 0) (key place : ℕ) → IsPlaceOf at first base IsCell key place → IsWordOf at (at first) base IsCell key (at place)
+pub word_at_place : (at : ℕ → ℕ) (first base : ℕ) (IsCell : ℕ → Type 0) (key place : ℕ) → IsPlaceOf at first base IsCell key place
+    → IsWordOf at (at first) base IsCell key (at place)
 word_at_place at first base IsCell key place (TopPlace k e) = Top k (ap at e)
 word_at_place at first base IsCell key place (ChildPlace c j p l k e) = Child c j p l k (ap at e)
 
@@ -22,17 +23,20 @@ pub record HasPlace (at : ℕ → ℕ) (first base : ℕ) (IsCell : ℕ → Type
   pub holds : w ≡ at place
 
 -- each word of a key stands at the key's place
-pub place_of_word : (at : ℕ → ℕ) (first base : ℕ) (IsCell : ℕ → Type 0) (key w : ℕ) → IsWordOf at (at first) base IsCell key w → HasPlace at first base IsCell key w
+pub place_of_word : (at : ℕ → ℕ) (first base : ℕ) (IsCell : ℕ → Type 0) (key w : ℕ) → IsWordOf at (at first) base IsCell key w
+    → HasPlace at first base IsCell key w
 place_of_word at first base IsCell key w (Top k e) = record { place = first; of_key = TopPlace k refl; holds = e }
 place_of_word at first base IsCell key w (Child c j p l k e) = record { place = child_place c j; of_key = ChildPlace c j p l k refl; holds = e }
 
 -- no key stands at a place of a word, where the root word stands before all cells
-pub key_apart : (at : ℕ → ℕ) (first base : ℕ) (IsCell : ℕ → Type 0) (key place c : ℕ) → first < FIRST_PLACE → IsPlaceOf at first base IsCell key place → key_place c ≢ place
+pub key_apart : (at : ℕ → ℕ) (first base : ℕ) (IsCell : ℕ → Type 0) (key place c : ℕ) → first < FIRST_PLACE → IsPlaceOf at first base IsCell key place
+    → key_place c ≢ place
 key_apart at first base IsCell key place c low (TopPlace k e) = λ x. omega arith
 key_apart at first base IsCell key place c low (ChildPlace d j p l k e) = λ x. omega arith
 
 -- a place has one key, where the root word stands before all cells
-pub one_key : (at : ℕ → ℕ) (first base : ℕ) (IsCell : ℕ → Type 0) (key key' place : ℕ) → first < FIRST_PLACE → IsPlaceOf at first base IsCell key place → IsPlaceOf at first base IsCell key' place → key ≡ key'
+pub one_key : (at : ℕ → ℕ) (first base : ℕ) (IsCell : ℕ → Type 0) (key key' place : ℕ) → first < FIRST_PLACE → IsPlaceOf at first base IsCell key place
+    → IsPlaceOf at first base IsCell key' place → key ≡ key'
 one_key at first base IsCell key key' place low (TopPlace k e) (TopPlace k' e') = k ∙ sym k'
 one_key at first base IsCell key key' place low (TopPlace k e) (ChildPlace c j p l k' e') = absurd (omega arith)
 one_key at first base IsCell key key' place low (ChildPlace c j p l k' e') (TopPlace k e) = absurd (omega arith)
@@ -42,7 +46,8 @@ one_key at first base IsCell key key' place low (ChildPlace c j p l k e) (ChildP
     k ∙ (ap (λ x. 8 * at (key_place x) + j) same ∙ ap (λ x. 8 * at (key_place d) + x) nth) ∙ sym k'
 
 -- a place stays one where the cells stay with their keys, whatever becomes of other keys
-pub place_kept : (at at' : ℕ → ℕ) (first base : ℕ) (P Q : ℕ → Type 0) (key place : ℕ) → ((c : ℕ) → P c → Q c) → ((c : ℕ) → P c → at' (key_place c) ≡ at (key_place c))
+pub place_kept : (at at' : ℕ → ℕ) (first base : ℕ) (P Q : ℕ → Type 0) (key place : ℕ) → ((c : ℕ) → P c → Q c)
+    → ((c : ℕ) → P c → at' (key_place c) ≡ at (key_place c))
     → IsPlaceOf at first base P key place → IsPlaceOf at' first base Q key place
 place_kept at at' first base P Q key place more same (TopPlace k e) = TopPlace k e
 place_kept at at' first base P Q key place more same (ChildPlace c j p l k e) = ChildPlace c j (more c p) l (k ∙ sym (ap (λ x. 8 * x + j) (same c p))) e
@@ -62,8 +67,10 @@ root_apart site at first base P B V h c k p l = λ e.
     child_below_top site at (at first) base P B V h c k p (sym down.1 ∙ up.1)
 
 -- the child word of a key is the changed one
-child_changed : (site : ℕ → Site) (at at' : ℕ → ℕ) (top base : ℕ) (P B V : ℕ → Type 0) (key c k w : ℕ) → StandsAmid site at top base P B V → P c → k < 8 → key ≡ 8 * at (key_place c) + k
-    → ChangedAt at at' (child_place c k) w → (d i : ℕ) → CellsOutside at (at (child_place c k)) P d → i < 8 → 8 * at (key_place d) + i ≡ key → at' (child_place d i) ≡ w
+child_changed : (site : ℕ → Site) (at at' : ℕ → ℕ) (top base : ℕ) (P B V : ℕ → Type 0) (key c k w : ℕ) → StandsAmid site at top base P B V → P c → k < 8
+    → key ≡ 8 * at (key_place c) + k
+    → ChangedAt at at' (child_place c k) w → (d i : ℕ) → CellsOutside at (at (child_place c k)) P d → i < 8 → 8 * at (key_place d) + i ≡ key
+    → at' (child_place d i) ≡ w
 child_changed site at at' top base P B V key c k w h p l e changed d i o m s =
     let both : 8 * at (key_place d) + i ≡ 8 * at (key_place c) + k = s ∙ e in
     let same : d ≡ c = h.keys_differ d c o.0 p (same_parent (at (key_place d)) (at (key_place c)) i k m l both) in
@@ -72,17 +79,20 @@ child_changed site at at' top base P B V key c k w h p l e changed d i o m s =
     ap at' at_it ∙ changed.now
 
 -- a child word at the changed place is that of the key
-child_key_same : (at : ℕ → ℕ) (c k d i key : ℕ) → k < 8 → i < 8 → key ≡ 8 * at (key_place c) + k → child_place d i ≡ child_place c k → 8 * at (key_place d) + i ≡ key
+child_key_same : (at : ℕ → ℕ) (c k d i key : ℕ) → k < 8 → i < 8 → key ≡ 8 * at (key_place c) + k → child_place d i ≡ child_place c k
+    → 8 * at (key_place d) + i ≡ key
 child_key_same at c k d i key l m e z =
     let same : d ≡ c = omega arith in
     let nth : i ≡ k = omega arith in
     ap (λ x. 8 * at (key_place x) + i) same ∙ ap (λ x. 8 * at (key_place c) + x) nth ∙ sym e
 
 -- where a word at a place of a key is changed, the word of the cube is replaced, and no other that is not read below it
-pub replaces_at : (site : ℕ → Site) (at at' : ℕ → ℕ) (first base : ℕ) (P Q B M V N : ℕ → Type 0) (key place w : ℕ) → StandsAmid site at (at first) base P B V → StandsAmid site at' w key Q M N
+pub replaces_at : (site : ℕ → Site) (at at' : ℕ → ℕ) (first base : ℕ) (P Q B M V N : ℕ → Type 0) (key place w : ℕ)
+    → StandsAmid site at (at first) base P B V → StandsAmid site at' w key Q M N
     → IsPlaceOf at first base P key place → ChangedAt at at' place w → Replaces site at at' (at first) (at' first) base P Q B M V N key (at place) w
 replaces_at site at at' first base P Q B M V N key place w h below (TopPlace k e) changed =
-    let none : (c : ℕ) → CellsOutside at (at place) P c → ⊥ = λ c o. o.1 (subst (λ (y : ℕ). IsReached at (at y) (cell_word c)) (sym e) (cell_is_reached site at (at first) base P B V h c o.0)) in
+    let none : (c : ℕ) → CellsOutside at (at place) P c
+    → ⊥ = λ c o. o.1 (subst (λ (y : ℕ). IsReached at (at y) (cell_word c)) (sym e) (cell_is_reached site at (at first) base P B V h c o.0)) in
     record {
       before = h;
       below = below;
@@ -135,7 +145,8 @@ still_in P O Q c (inl p) = inl p.0
 still_in P O Q c (inr q) = inr q
 
 -- the words then stand for the bodies of both, with the cells of both
-pub graft_word : (site : ℕ → Site) (at at' : ℕ → ℕ) (top top' base : ℕ) (P Q B M V N : ℕ → Type 0) (key old w : ℕ) → Replaces site at at' top top' base P Q B M V N key old w
+pub graft_word : (site : ℕ → Site) (at at' : ℕ → ℕ) (top top' base : ℕ) (P Q B M V N : ℕ → Type 0) (key old w : ℕ)
+    → Replaces site at at' top top' base P Q B M V N key old w
     → ((c : ℕ) → old ≡ cell_word c → ⊥) → ((n : ℕ) → old ≡ body_word n → M n)
     → StandsAmid site at' top' base (Either P Q) (Either B M) (Either V N)
 graft_word site at at' top top' base P Q B M V N key old w r none joins =
@@ -145,13 +156,16 @@ graft_word site at at' top top' base P Q B M V N key old w r none joins =
     (λ n v. v) (replaced site at at' top top' base P Q B M V N key old w r)
 
 -- the same where the words of a place are changed
-pub graft : (site : ℕ → Site) (at at' : ℕ → ℕ) (first base : ℕ) (P Q B M V N : ℕ → Type 0) (key place w : ℕ) → Grafts site at at' first base P Q B M V N key place w
+pub graft : (site : ℕ → Site) (at at' : ℕ → ℕ) (first base : ℕ) (P Q B M V N : ℕ → Type 0) (key place w : ℕ)
+    → Grafts site at at' first base P Q B M V N key place w
     → StandsAmid site at' (at' first) base (Either P Q) (Either B M) (Either V N)
 graft site at at' first base P Q B M V N key place w g =
-    graft_word site at at' (at first) (at' first) base P Q B M V N key (at place) w (replaces_at site at at' first base P Q B M V N key place w g.before g.below g.there g.changed) g.no_cell g.body_joins
+    graft_word site at at' (at first) (at' first) base P Q B M V N key (at place) w
+    (replaces_at site at at' first base P Q B M V N key place w g.before g.below g.there g.changed) g.no_cell g.body_joins
 
 -- the same inside a part whose top word stands at no place
-pub graft_inside : (site : ℕ → Site) (at at' : ℕ → ℕ) (top base : ℕ) (P Q B M V N : ℕ → Type 0) (key c k w : ℕ) → StandsAmid site at top base P B V → StandsAmid site at' w key Q M N
+pub graft_inside : (site : ℕ → Site) (at at' : ℕ → ℕ) (top base : ℕ) (P Q B M V N : ℕ → Type 0) (key c k w : ℕ) → StandsAmid site at top base P B V
+    → StandsAmid site at' w key Q M N
     → P c → k < 8 → key ≡ 8 * at (key_place c) + k → ChangedAt at at' (child_place c k) w
     → ((d : ℕ) → at (child_place c k) ≡ cell_word d → ⊥) → ((n : ℕ) → at (child_place c k) ≡ body_word n → M n)
     → StandsAmid site at' top base (Either P Q) (Either B M) (Either V N)

@@ -9,7 +9,8 @@ use Rattle.tree_rule.proofs.Canonical.{ACell, NoBody, OneBody, WordIs, word_is}
 use Rattle.tree_rule.proofs.Graft.{key_apart, place_kept}
 
 -- a published cell stays published with its key
-pub cell_note_stays : (at at' : ℕ → ℕ) (root base : ℕ) (P Q : ℕ → Type 0) → AreLater at at' root base P Q → (c key : ℕ) → IsPublishedAs at P c key → IsPublishedAs at' Q c key
+pub cell_note_stays : (at at' : ℕ → ℕ) (root base : ℕ) (P Q : ℕ → Type 0) → AreLater at at' root base P Q → (c key : ℕ) → IsPublishedAs at P c key
+    → IsPublishedAs at' Q c key
 cell_note_stays at at' root base P Q later c key h = (later.cells_stay c h.0, later.keys_stay c h.0 ∙ h.1)
 
 -- a word that names a body or a cell goes on to name that body or a cell
@@ -21,7 +22,8 @@ names_on v w n (inr f) (inr (inl z)) = absurd (omega (arith, f.1))
 names_on v w n h (inr (inr g)) = inr g
 
 -- a published word that named a body is published still, and names that body still or a cell
-pub body_note_stays : (at at' : ℕ → ℕ) (root base : ℕ) (P Q : ℕ → Type 0) → AreLater at at' root base P Q → (place n : ℕ) → HasNamed at root base P place n → HasNamed at' root base Q place n
+pub body_note_stays : (at at' : ℕ → ℕ) (root base : ℕ) (P Q : ℕ → Type 0) → AreLater at at' root base P Q → (place n : ℕ) → HasNamed at root base P place n
+    → HasNamed at' root base Q place n
 body_note_stays at at' root base P Q later place n h = record {
   key = h.key;
   published = place_kept at at' root base P Q h.key place later.cells_stay later.keys_stay h.published;
@@ -29,7 +31,8 @@ body_note_stays at at' root base P Q later place n h = record {
 }
 
 -- a word that names no cell, and is to name one where it names a body, becomes another
-goes_on : (at at' : ℕ → ℕ) (place w other : ℕ) → ((c : ℕ) → at place ≡ cell_word c → ⊥) → ((n : ℕ) → at place ≡ body_word n → (c : ℕ) × (w ≡ cell_word c)) → ChangedAt at at' place w → WordIs (at place)
+goes_on : (at at' : ℕ → ℕ) (place w other : ℕ) → ((c : ℕ) → at place ≡ cell_word c → ⊥) → ((n : ℕ) → at place ≡ body_word n → (c : ℕ) × (w ≡ cell_word c))
+    → ChangedAt at at' place w → WordIs (at place)
     → (at' other ≡ at other) ⊎ ((at other ≡ 0) ⊎ ((c : ℕ) × (at' other ≡ cell_word c)))
 goes_on at at' place w other none next changed is = elim (same_or_not other place) [
   | inr d ↦ inl (changed.others other d)
@@ -41,8 +44,10 @@ goes_on at at' place w other none next changed is = elim (same_or_not other plac
 ]
 
 -- where one published word is changed that names no cell, and becomes a cell's where it names a body, the words are later ones
-pub published_later : (at at' : ℕ → ℕ) (root base : ℕ) (P Q : ℕ → Type 0) (key place w : ℕ) → root < FIRST_PLACE → IsPlaceOf at root base P key place → ((c : ℕ) → P c → Q c)
-    → ((c : ℕ) → at place ≡ cell_word c → ⊥) → ((n : ℕ) → at place ≡ body_word n → (c : ℕ) × (w ≡ cell_word c)) → ChangedAt at at' place w → AreLater at at' root base P Q
+pub published_later : (at at' : ℕ → ℕ) (root base : ℕ) (P Q : ℕ → Type 0) (key place w : ℕ) → root < FIRST_PLACE → IsPlaceOf at root base P key place
+    → ((c : ℕ) → P c → Q c)
+    → ((c : ℕ) → at place ≡ cell_word c → ⊥) → ((n : ℕ) → at place ≡ body_word n → (c : ℕ) × (w ≡ cell_word c)) → ChangedAt at at' place w
+    → AreLater at at' root base P Q
 published_later at at' root base P Q key place w low there more none next changed = record {
   cells_stay = more;
   keys_stay = λ c p. changed.others (key_place c) (key_apart at root base P key place c low there);

@@ -11,8 +11,10 @@ use Rattle.tree_rule.proofs.Flat.{below_top, cell_above, child_below_top, one_wo
 pub one_place : (site : ℕ → Site) (at : ℕ → ℕ) (first base : ℕ) (IsCell IsBody IsAll : ℕ → Type 0) → StandsAmid site at (at first) base IsCell IsBody IsAll
     → (key p q : ℕ) → IsPlaceOf at first base IsCell key p → IsPlaceOf at first base IsCell key q → p ≡ q
 one_place site at first base IsCell IsBody IsAll h key p q (TopPlace k e) (TopPlace k' e') = e ∙ sym e'
-one_place site at first base IsCell IsBody IsAll h key p q (TopPlace k e) (ChildPlace d i m b l f) = absurd (child_below_top site at (at first) base IsCell IsBody IsAll h d i m (sym l ∙ k))
-one_place site at first base IsCell IsBody IsAll h key p q (ChildPlace c j o a k e) (TopPlace l f) = absurd (child_below_top site at (at first) base IsCell IsBody IsAll h c j o (sym k ∙ l))
+one_place site at first base IsCell IsBody IsAll h key p q (TopPlace k e) (ChildPlace d i m b l f) =
+    absurd (child_below_top site at (at first) base IsCell IsBody IsAll h d i m (sym l ∙ k))
+one_place site at first base IsCell IsBody IsAll h key p q (ChildPlace c j o a k e) (TopPlace l f) =
+    absurd (child_below_top site at (at first) base IsCell IsBody IsAll h c j o (sym k ∙ l))
 one_place site at first base IsCell IsBody IsAll h key p q (ChildPlace c j o a k e) (ChildPlace d i m b l f) =
     let both : 8 * at (key_place c) + j ≡ 8 * at (key_place d) + i = sym k ∙ l in
     let same : c ≡ d = h.keys_differ c d o m (same_parent _ _ j i a b both) in
@@ -21,7 +23,8 @@ one_place site at first base IsCell IsBody IsAll h key p q (ChildPlace c j o a k
 
 -- the words of a body are of one level: above a word of a deeper one stands the word of a cell
 no_body_above : (site : ℕ → Site) (at : ℕ → ℕ) (top base : ℕ) (IsCell IsBody IsAll : ℕ → Type 0) → StandsAmid site at top base IsCell IsBody IsAll
-    → (n level deeper : ℕ) → IsWordOf at top base IsCell (key_of (site n) level) (body_word n) → IsWordOf at top base IsCell (key_of (site n) deeper) (body_word n) → level < deeper → ⊥
+    → (n level deeper : ℕ) → IsWordOf at top base IsCell (key_of (site n) level) (body_word n)
+    → IsWordOf at top base IsCell (key_of (site n) deeper) (body_word n) → level < deeper → ⊥
 no_body_above site at top base IsCell IsBody IsAll h n level deeper x y l =
     let s : Site = site n in
     let t = below_top site at top base IsCell IsBody IsAll h s level (body_word n) x in

@@ -34,7 +34,8 @@ stands_none site at base = record {
 }
 
 -- a body's word stands for the body in a cube that its point lies in
-pub stands_body : (site : ℕ → Site) (at : ℕ → ℕ) (base n : ℕ) (V : ℕ → Type 0) → IsUnder base (site n) → StandsAmid site at (body_word n) base Nothing (Only n) V
+pub stands_body : (site : ℕ → Site) (at : ℕ → ℕ) (base n : ℕ) (V : ℕ → Type 0) → IsUnder base (site n)
+    → StandsAmid site at (body_word n) base Nothing (Only n) V
 stands_body site at base n V u = record {
   keys_differ = λ c d p q e. absurd p;
   cell_named = λ c p. absurd p;

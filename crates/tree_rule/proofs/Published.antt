@@ -26,19 +26,24 @@ lists_changed site at top base P B V cells bodies witnesses pc bb vw h = amid_sa
 
 -- members of two lists are those of the lists together
 either_in : (xs ys : List ℕ) (m : ℕ) → Either (IsIn ys) (IsIn xs) m ↔ IsIn (xs ++ ys) m
-either_in xs ys m = ((λ p. elim p [ inl q ↦ in_right xs ys m q | inr q ↦ in_left xs ys m q ]), (λ p. elim (in_append xs ys m p) [ inl q ↦ inr q | inr q ↦ inl q ]))
+either_in xs ys m = (
+  (λ p. elim p [ inl q ↦ in_right xs ys m q | inr q ↦ in_left xs ys m q ]),
+  (λ p. elim (in_append xs ys m p) [ inl q ↦ inr q | inr q ↦ inl q ]),
+)
 
 -- numbers move from a list to the one before it
 moved_over : (xs ys zs : List ℕ) → NoneTwice (xs ++ (ys ++ zs)) → NoneTwice ((ys ++ xs) ++ zs)
 moved_over xs ys zs h =
     let back : NoneTwice (ys ++ zs) = once_back xs (ys ++ zs) h in
     none_twice-append (ys ++ xs) zs
-    (none_twice-append ys xs (once_front ys zs back) (once_front xs (ys ++ zs) h) (λ n i j. once_apart xs (ys ++ zs) h n j (in_left ys zs n i))) (once_back ys zs back)
+    (none_twice-append ys xs (once_front ys zs back) (once_front xs (ys ++ zs) h) (λ n i j. once_apart xs (ys ++ zs) h n j (in_left ys zs n i)))
+    (once_back ys zs back)
     (λ n i j. elim (in_append ys xs n i) [ inl k ↦ once_apart ys zs back n k j | inr k ↦ once_apart xs (ys ++ zs) h n k (in_right ys zs n j) ])
 
 module _ (site : ℕ → Site) (at at' : ℕ → ℕ) (root base : ℕ) (cells : List ℕ) (key place : ℕ) (there : IsPublished at root base cells key place) where
   -- an empty published word becomes that of a body of its cube
-  pub body_put : (others bodies : List ℕ) (n : ℕ) → NamesExactly site at root base cells others bodies → at place ≡ 0 → IsUnder key (site n) → ChangedAt at at' place (body_word n)
+  pub body_put : (others bodies : List ℕ) (n : ℕ) → NamesExactly site at root base cells others bodies → at place ≡ 0 → IsUnder key (site n)
+      → ChangedAt at at' place (body_word n)
       → NamesExactly site at' root base cells others (n ∷ bodies)
   body_put others bodies n h empty under changed =
       exact_of_stands site at' root base cells others (n ∷ bodies)
@@ -56,16 +61,19 @@ module _ (site : ℕ → Site) (at at' : ℕ → ℕ) (root base : ℕ) (cells :
 
   -- a published word that names no cell becomes that of a part, which has the body that the word named
   pub part_put : (others bodies new_cells new_bodies all : List ℕ) (w : ℕ) → NamesExactly site at root base cells (new_cells ++ others) bodies
-      → ((c : ℕ) → at place ≡ cell_word c → ⊥) → ((x : ℕ) → at place ≡ body_word x → IsIn new_bodies x) → NamesExactly site at' place key new_cells [] new_bodies → ChangedAt at at' place w
+      → ((c : ℕ) → at place ≡ cell_word c → ⊥) → ((x : ℕ) → at place ≡ body_word x → IsIn new_bodies x)
+      → NamesExactly site at' place key new_cells [] new_bodies → ChangedAt at at' place w
       → ((n : ℕ) → IsIn (new_bodies ++ bodies) n ↔ IsIn all n) → NamesExactly site at' root base (new_cells ++ cells) others all
   part_put others bodies new_cells new_bodies all w h no_cell joins part changed same =
       exact_of_stands site at' root base (new_cells ++ cells) others all
-      (stands_same site at' (at' root) base (Either (IsIn cells) (IsIn new_cells)) (IsIn (new_cells ++ cells)) (Either (IsIn bodies) (IsIn new_bodies)) (IsIn all)
+      (stands_same site at' (at' root) base (Either (IsIn cells) (IsIn new_cells)) (IsIn (new_cells ++ cells)) (Either (IsIn bodies) (IsIn new_bodies))
+      (IsIn all)
       (either_in new_cells cells)
       (λ n. ((λ p. (same n).0 ((either_in new_bodies bodies n).0 p)), (λ p. (either_in new_bodies bodies n).1 ((same n).1 p))))
       (graft site at at' root base (IsIn cells) (IsIn new_cells) (IsIn bodies) (IsIn new_bodies) (IsIn bodies) (IsIn new_bodies) key place w (record {
         before = stands_of_exact site at root base cells (new_cells ++ others) bodies h;
-        below = subst (λ (y : ℕ). StandsFor site at' y key (IsIn new_cells) (IsIn new_bodies)) changed.now (stands_of_exact site at' place key new_cells [] new_bodies part);
+        below = subst (λ (y : ℕ). StandsFor site at' y key (IsIn new_cells) (IsIn new_bodies)) changed.now
+            (stands_of_exact site at' place key new_cells [] new_bodies part);
         there = there;
         no_cell = no_cell;
         body_joins = joins;
@@ -84,13 +92,17 @@ module _ (site : ℕ → Site) (at at' : ℕ → ℕ) (root base : ℕ) (cells :
 
   -- an empty published word becomes that of a part
   pub cell_put : (others bodies new_cells new_bodies : List ℕ) (w : ℕ) → NamesExactly site at root base cells (new_cells ++ others) bodies → at place ≡ 0
-      → NamesExactly site at' place key new_cells [] new_bodies → ChangedAt at at' place w → NamesExactly site at' root base (new_cells ++ cells) others (new_bodies ++ bodies)
+      → NamesExactly site at' place key new_cells [] new_bodies → ChangedAt at at' place w
+      → NamesExactly site at' root base (new_cells ++ cells) others (new_bodies ++ bodies)
   cell_put others bodies new_cells new_bodies w h empty part changed =
-      part_put others bodies new_cells new_bodies (new_bodies ++ bodies) w h (λ c e. omega (arith, empty)) (λ x e. absurd (omega (arith, empty))) part changed (λ n. ((λ i. i), (λ i. i)))
+      part_put others bodies new_cells new_bodies (new_bodies ++ bodies) w h (λ c e. omega (arith, empty))
+      (λ x e. absurd (omega (arith, empty))) part changed (λ n. ((λ i. i), (λ i. i)))
 
   -- a published word that names a body becomes that of a part with it and others
-  pub cell_put_over : (others bodies new_cells more : List ℕ) (x w : ℕ) → NamesExactly site at root base cells (new_cells ++ others) bodies → at place ≡ body_word x
-      → NamesExactly site at' place key new_cells [] (x ∷ more) → ChangedAt at at' place w → NamesExactly site at' root base (new_cells ++ cells) others (more ++ bodies)
+  pub cell_put_over : (others bodies new_cells more : List ℕ) (x w : ℕ) → NamesExactly site at root base cells (new_cells ++ others) bodies
+      → at place ≡ body_word x
+      → NamesExactly site at' place key new_cells [] (x ∷ more) → ChangedAt at at' place w
+      → NamesExactly site at' root base (new_cells ++ cells) others (more ++ bodies)
   cell_put_over others bodies new_cells more x w h e part changed =
       part_put others bodies new_cells (x ∷ more) (more ++ bodies) w h (λ c f. omega (arith, e)) (λ m f. let s : m ≡ x = omega arith in inl s) part changed
       (named_already (new_cells ++ others) bodies more x h e)
@@ -98,7 +110,8 @@ module _ (site : ℕ → Site) (at at' : ℕ → ℕ) (root base : ℕ) (cells :
 -- the cells of a list that are kept where those below a cell's word leave
 pub cells_kept : (site : ℕ → Site) (at after : ℕ → ℕ) (root base : ℕ) (cells kept bodies witnesses : List ℕ) (place c : ℕ) → at place ≡ cell_word c
     → ((d : ℕ) → IsIn kept d ↔ (IsIn cells d × (IsReached at (cell_word c) (cell_word d) → ⊥)))
-    → StandsAmid site after (after root) base (CellsOutside at (at place) (IsIn cells)) (IsIn bodies) (IsIn witnesses) → StandsAmid site after (after root) base (IsIn kept) (IsIn bodies) (IsIn witnesses)
+    → StandsAmid site after (after root) base (CellsOutside at (at place) (IsIn cells)) (IsIn bodies) (IsIn witnesses)
+    → StandsAmid site after (after root) base (IsIn kept) (IsIn bodies) (IsIn witnesses)
 cells_kept site at after root base cells kept bodies witnesses place c named rest h =
     lists_changed site after (after root) base (CellsOutside at (cell_word c) (IsIn cells)) (IsIn bodies) (IsIn witnesses) kept bodies witnesses
     (λ d. ((rest d).1, (rest d).0)) (λ n. ((λ p. p), (λ p. p))) (λ n p. p)

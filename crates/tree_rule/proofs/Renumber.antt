@@ -26,7 +26,8 @@ renumbered-cell number c = ap (λ x. word_of (renamed number x)) (named-cell c)
 was_body : (number : ℕ → ℕ) (n w : ℕ) → renumbered number w ≡ body_word n → WordIs w → w ≡ body_word n
 was_body number n w e (NoBody z) = absurd (let f : 0 ≡ body_word n = sym (renumbered-none number) ∙ ap (renumbered number) (sym z) ∙ e in omega arith)
 was_body number n w e (OneBody m z) = z ∙ sym (renumbered-body number m) ∙ ap (renumbered number) (sym z) ∙ e
-was_body number n w e (ACell c z) = absurd (let f : cell_word (number c) ≡ body_word n = sym (renumbered-cell number c) ∙ ap (renumbered number) (sym z) ∙ e in omega arith)
+was_body number n w e (ACell c z) =
+    absurd (let f : cell_word (number c) ≡ body_word n = sym (renumbered-cell number c) ∙ ap (renumbered number) (sym z) ∙ e in omega arith)
 
 -- the cell that a word named which names a cell now
 record WasCell (number : ℕ → ℕ) (d w : ℕ) : Type 0 where
@@ -36,7 +37,8 @@ record WasCell (number : ℕ → ℕ) (d w : ℕ) : Type 0 where
 
 was_cell : (number : ℕ → ℕ) (d w : ℕ) → renumbered number w ≡ cell_word d → WordIs w → WasCell number d w
 was_cell number d w e (NoBody z) = absurd (let f : 0 ≡ cell_word d = sym (renumbered-none number) ∙ ap (renumbered number) (sym z) ∙ e in omega arith)
-was_cell number d w e (OneBody m z) = absurd (let f : body_word m ≡ cell_word d = sym (renumbered-body number m) ∙ ap (renumbered number) (sym z) ∙ e in omega arith)
+was_cell number d w e (OneBody m z) =
+    absurd (let f : body_word m ≡ cell_word d = sym (renumbered-body number m) ∙ ap (renumbered number) (sym z) ∙ e in omega arith)
 was_cell number d w e (ACell c z) =
     let f : cell_word (number c) ≡ cell_word d = sym (renumbered-cell number c) ∙ ap (renumbered number) (sym z) ∙ e in
     record { old = c; word = z; new = omega arith }
@@ -47,14 +49,16 @@ record Before (at : ℕ → ℕ) (top base : ℕ) (P : ℕ → Type 0) (number :
   of_key : IsWordOf at top base P key word
   becomes : renumbered number word ≡ w
 
-module _ (site : ℕ → Site) (at at' : ℕ → ℕ) (top top' base : ℕ) (P B V : ℕ → Type 0) (number : ℕ → ℕ) (h : StandsAmid site at top base P B V) (r : AreRenumbered at at' P number)
+module _ (site : ℕ → Site) (at at' : ℕ → ℕ) (top top' base : ℕ) (P B V : ℕ → Type 0) (number : ℕ → ℕ) (h : StandsAmid site at top base P B V)
+    (r : AreRenumbered at at' P number)
     (tops : top' ≡ renumbered number top) where
   abbrev Cells : ℕ → Type 0
   Cells d = IsNumberOf number P d
 
   forward : (key w : ℕ) → IsWordOf at top base P key w → IsWordOf at' top' base Cells key (renumbered number w)
   forward key w (Top k e) = Top k (ap (renumbered number) e ∙ sym tops)
-  forward key w (Child c j p l k e) = Child (number c) j (c, p, refl) l (k ∙ ap (λ y. 8 * y + j) (sym (r.keys c p))) (ap (renumbered number) e ∙ sym (r.children c j p l))
+  forward key w (Child c j p l k e) =
+      Child (number c) j (c, p, refl) l (k ∙ ap (λ y. 8 * y + j) (sym (r.keys c p))) (ap (renumbered number) e ∙ sym (r.children c j p l))
 
   backward : (key w : ℕ) → IsWordOf at' top' base Cells key w → Before at top base P number key w
   backward key w (Top k e) = record { word = top; of_key = Top k refl; becomes = sym tops ∙ sym e }
@@ -74,7 +78,8 @@ module _ (site : ℕ → Site) (at at' : ℕ → ℕ) (top top' base : ℕ) (P B
     keys_differ = λ c d p q e. p.2 ∙ ap number (h.keys_differ p.0 q.0 p.1 q.1 (sym (key_is c p) ∙ e ∙ key_is d q)) ∙ sym q.2;
     cell_named = λ d q.
         subst (λ (y : ℕ). IsWordOf at' top' base Cells y (cell_word d)) (sym (key_is d q))
-        (subst (λ (y : ℕ). IsWordOf at' top' base Cells (at (key_place q.0)) y) (renumbered-cell number q.0 ∙ ap cell_word (sym q.2)) (forward (at (key_place q.0)) (cell_word q.0) (h.cell_named q.0 q.1)));
+        (subst (λ (y : ℕ). IsWordOf at' top' base Cells (at (key_place q.0)) y) (renumbered-cell number q.0 ∙ ap cell_word (sym q.2))
+        (forward (at (key_place q.0)) (cell_word q.0) (h.cell_named q.0 q.1)));
     names_cell = λ key d x.
         let y = backward key (cell_word d) x in
         let n = was_cell number d y.word y.becomes (word_is y.word) in
@@ -86,7 +91,8 @@ module _ (site : ℕ → Site) (at at' : ℕ → ℕ) (top top' base : ℕ) (P B
         record {
           level = g.level;
           shallow = g.shallow;
-          named = subst (λ (y : ℕ). IsWordOf at' top' base Cells (key_of (site n) g.level) y) (renumbered-body number n) (forward (key_of (site n) g.level) (body_word n) g.named);
+          named = subst (λ (y : ℕ). IsWordOf at' top' base Cells (key_of (site n) g.level) y) (renumbered-body number n)
+              (forward (key_of (site n) g.level) (body_word n) g.named);
         };
     names_body = λ key n x.
         let y = backward key (body_word n) x in

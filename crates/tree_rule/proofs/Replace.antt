@@ -38,7 +38,8 @@ pub record IsReadUnder (site : ℕ → Site) (at : ℕ → ℕ) (top base : ℕ)
   pub in_cube : (s : Site) → IsUnder deeper s → IsUnder key s
 
 -- the key of a cell is not 0
-pub cell_key_positive : (site : ℕ → Site) (at : ℕ → ℕ) (top base : ℕ) (P B V : ℕ → Type 0) → StandsAmid site at top base P B V → (c : ℕ) → P c → 1 ≤ at (key_place c)
+pub cell_key_positive : (site : ℕ → Site) (at : ℕ → ℕ) (top base : ℕ) (P B V : ℕ → Type 0) → StandsAmid site at top base P B V → (c : ℕ) → P c
+    → 1 ≤ at (key_place c)
 cell_key_positive site at top base P B V h c p = let f = sharer (h.shared c p) in omega (arith, f.one_under, key-positive (site f.one) f.level)
 
 -- a word that is read below another has a key of the other's cube
@@ -62,7 +63,8 @@ pub read_alone : (at : ℕ → ℕ) (old v : ℕ) → ((c : ℕ) → old ≡ cel
 read_alone at old _ h (Here v e) = e
 read_alone at old _ h (Below c k v q l e) = absurd (h c (sym (read_alone at old (cell_word c) h q)))
 
-module _ (site : ℕ → Site) (at at' : ℕ → ℕ) (top top' base : ℕ) (P Q B M V N : ℕ → Type 0) (key old w : ℕ) (r : Replaces site at at' top top' base P Q B M V N key old w) where
+module _ (site : ℕ → Site) (at at' : ℕ → ℕ) (top top' base : ℕ) (P Q B M V N : ℕ → Type 0) (key old w : ℕ)
+    (r : Replaces site at at' top top' base P Q B M V N key old w) where
   abbrev Stays : ℕ → Type 0
   Stays c = CellsOutside at old P c
 
@@ -104,7 +106,8 @@ module _ (site : ℕ → Site) (at at' : ℕ → ℕ) (top top' base : ℕ) (P Q
 
   -- a word of the new part is one of the whole
   comes : (k v : ℕ) → IsWordOf at' w key Q k v → IsWordOf at' top' base Cells k v
-  comes k v (Top e x) = subst (λ (y : ℕ). IsWordOf at' top' base Cells y v) (sym e) (subst (λ (y : ℕ). IsWordOf at' top' base Cells key y) (sym x) (new_word r.there))
+  comes k v (Top e x) =
+      subst (λ (y : ℕ). IsWordOf at' top' base Cells y v) (sym e) (subst (λ (y : ℕ). IsWordOf at' top' base Cells key y) (sym x) (new_word r.there))
   comes k v (Child c j q l e x) = Child c j (inr q) l e x
 
   -- a key is not the replaced word's, and none of a child of a cell that is read below it
@@ -124,7 +127,11 @@ module _ (site : ℕ → Site) (at at' : ℕ → ℕ) (top top' base : ℕ) (P Q
   which : (k v : ℕ) → IsWordOf at' top' base Cells k v → (IsWordOf at top base P k v × IsElsewhere k) ⊎ IsWordOf at' w key Q k v
   which k v (Top e x) = elim (same_or_not base key) [
     | inl s ↦ inr (Top (e ∙ s) (x ∙ r.top_new s))
-    | inr d ↦ inl (Top e (x ∙ r.top_stays d), record { apart = λ y. d (sym e ∙ y); no_child = λ c i p q l y. child_below_top site at top base P B V h c i p (sym y ∙ e) })
+    | inr d ↦ inl (
+      Top e (x ∙ r.top_stays d),
+      record
+          { apart = λ y. d (sym e ∙ y); no_child = λ c i p q l y. child_below_top site at top base P B V h c i p (sym y ∙ e) },
+    )
   ]
   which k v (Child c j (inl o) l e x) =
       let was : k ≡ 8 * at (key_place c) + j = e ∙ ap (λ y. 8 * y + j) (r.keys_stay c o) in
@@ -147,9 +154,11 @@ module _ (site : ℕ → Site) (at at' : ℕ → ℕ) (top top' base : ℕ) (P Q
   apart c d o q e =
       let f = sharer (r.below.shared d q) in
       let s : Site = site f.one in
-      let new : IsWordOf at' w key Q (key_of s f.level) (cell_word d) = subst (λ (x : ℕ). IsWordOf at' w key Q x (cell_word d)) f.one_under (r.below.cell_named d q) in
+      let new : IsWordOf at' w key Q (key_of s f.level) (cell_word d) =
+      subst (λ (x : ℕ). IsWordOf at' w key Q x (cell_word d)) f.one_under (r.below.cell_named d q) in
       let b = below_top site at' w key Q M N r.below s f.level (cell_word d) new in
-      let mine : IsWordOf at top base P (key_of s f.level) (cell_word c) = subst (λ (x : ℕ). IsWordOf at top base P x (cell_word c)) (e ∙ f.one_under) (h.cell_named c o.0) in
+      let mine : IsWordOf at top base P (key_of s f.level) (cell_word c) =
+      subst (λ (x : ℕ). IsWordOf at top base P x (cell_word c)) (e ∙ f.one_under) (h.cell_named c o.0) in
       let here : IsWordOf at top base P (key_of s b.top_level) old = subst (λ (x : ℕ). IsWordOf at top base P x old) b.is_base r.there in
       o.1 (reached_below site at top base P B V h s f.level (cell_word c) b.top_level old mine here b.above)
 
@@ -179,7 +188,8 @@ module _ (site : ℕ → Site) (at at' : ℕ → ℕ) (top top' base : ℕ) (P Q
       let f = r.below.body_named n m in
       record { level = f.level; shallow = f.shallow; named = comes (key_of (site n) f.level) (body_word n) f.named }
 
-  names_body : (k n : ℕ) → (IsWordOf at top base P k (body_word n) × IsElsewhere k) ⊎ IsWordOf at' w key Q k (body_word n) → Either (BodiesOutside at old B) M n × IsUnder k (site n)
+  names_body : (k n : ℕ) → (IsWordOf at top base P k (body_word n) × IsElsewhere k) ⊎ IsWordOf at' w key Q k (body_word n)
+      → Either (BodiesOutside at old B) M n × IsUnder k (site n)
   names_body k n (inl x) =
       let f = h.names_body k n x.0 in
       (inl (f.0, not_read k (body_word n) x.1 (λ k' y. one_key_of_body site at top base P B V h n k k' x.0 y)), f.1)

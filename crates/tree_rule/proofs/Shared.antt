@@ -56,5 +56,6 @@ abbrev pub Pair : ℕ → ℕ → ℕ → Type 0
 Pair x n m = (m ≡ x) ⊎ (m ≡ n)
 
 -- the cube of a pair is shared by both
-pub pair_shares : (site : ℕ → Site) (x n level : ℕ) → level < LEVELS → x ≢ n → key_of (site x) level ≡ key_of (site n) level → IsShared site (Pair x n) (key_of (site n) level)
+pub pair_shares : (site : ℕ → Site) (x n level : ℕ) → level < LEVELS → x ≢ n → key_of (site x) level ≡ key_of (site n) level
+    → IsShared site (Pair x n) (key_of (site n) level)
 pair_shares site x n level l d k = record { level = level; shallow = l; sharers = more_of_two x n (inl refl, sym k) (inr refl, refl) d }

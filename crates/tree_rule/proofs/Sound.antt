@@ -94,7 +94,8 @@ level_small s key level h e = elim (cases_lt level 21) [
 ]
 
 -- two bodies that are read below a cell lie under its key
-shares_of : (site : ℕ → Site) (at : ℕ → ℕ) (top base key c : ℕ) → 1 ≤ base → IsSound at top base → BodiesUnder site at top base → IsReachedAs at top base key (cell_word c)
+shares_of : (site : ℕ → Site) (at : ℕ → ℕ) (top base key c : ℕ) → 1 ≤ base → IsSound at top base → BodiesUnder site at top base
+    → IsReachedAs at top base key (cell_word c)
     → IsShared site (IsBodyRead at top) key
 shares_of site at top base key c pos h under r =
     let two = two_of_more (h.more_bodies key c r) in
@@ -118,18 +119,25 @@ stands_of_sound site at top base pos h under = record {
       let f = recall at top base (cell_word c) p in
       let g = recall at top base (cell_word d) q in
       let same : g.key ≡ f.key = sym (h.keys_follow g.key d g.read) ∙ sym e ∙ h.keys_follow f.key c f.read in
-      let cells : cell_word c ≡ cell_word d = one_read at top base f.key (cell_word c) (cell_word d) pos f.read (subst (λ (y : ℕ). IsReachedAs at top base y (cell_word d)) same g.read) in
+      let cells : cell_word c ≡ cell_word d =
+      one_read at top base f.key (cell_word c) (cell_word d) pos f.read (subst (λ (y : ℕ). IsReachedAs at top base y (cell_word d)) same g.read) in
       omega arith;
   cell_named = λ c p.
       let f = recall at top base (cell_word c) p in
-      subst (λ (y : ℕ). IsWordOf at top base (IsCellRead at top) y (cell_word c)) (sym (h.keys_follow f.key c f.read)) (word_of_read at top base f.key (cell_word c) h f.read);
+      subst (λ (y : ℕ). IsWordOf at top base (IsCellRead at top) y (cell_word c)) (sym (h.keys_follow f.key c f.read))
+      (word_of_read at top base f.key (cell_word c) h f.read);
   names_cell = λ key c x.
       let r = read_of_word at top base key (cell_word c) h x in
       (forget at top base key (cell_word c) r, h.keys_follow key c r);
   body_named = λ n b.
       let f = recall at top base (body_word n) b in
       let u = under f.key n f.read in
-      record { level = u.0; shallow = u.1; named = subst (λ (y : ℕ). IsWordOf at top base (IsCellRead at top) y (body_word n)) u.2 (word_of_read at top base f.key (body_word n) h f.read) };
+      record {
+        level = u.0;
+        shallow = u.1;
+        named =
+            subst (λ (y : ℕ). IsWordOf at top base (IsCellRead at top) y (body_word n)) u.2 (word_of_read at top base f.key (body_word n) h f.read);
+      };
   names_body = λ key n x.
       let r = read_of_word at top base key (body_word n) h x in
       (forget at top base key (body_word n) r, under key n r);
@@ -210,10 +218,12 @@ pub sound_below : (at : ℕ → ℕ) (top base key v : ℕ) → IsSound at top b
 sound_below at top base key v h r = record {
   keys_follow = λ deeper c q. h.keys_follow deeper c (read_on at top base key v r deeper (cell_word c) q);
   shallow = λ deeper c q. h.shallow deeper c (read_on at top base key v r deeper (cell_word c) q);
-  bodies_once = λ deeper deeper' n q s. h.bodies_once deeper deeper' n (read_on at top base key v r deeper (body_word n) q) (read_on at top base key v r deeper' (body_word n) s);
+  bodies_once = λ deeper deeper' n q s. h.bodies_once deeper deeper' n (read_on at top base key v r deeper (body_word n) q)
+      (read_on at top base key v r deeper' (body_word n) s);
   more_bodies = λ deeper c q. h.more_bodies deeper c (read_on at top base key v r deeper (cell_word c) q);
 }
 
 -- the bodies below a word that is read have their points in the cubes of their words
-pub bodies_below : (site : ℕ → Site) (at : ℕ → ℕ) (top base key v : ℕ) → BodiesUnder site at top base → IsReachedAs at top base key v → BodiesUnder site at v key
+pub bodies_below : (site : ℕ → Site) (at : ℕ → ℕ) (top base key v : ℕ) → BodiesUnder site at top base → IsReachedAs at top base key v
+    → BodiesUnder site at v key
 bodies_below site at top base key v h r deeper n q = h deeper n (read_on at top base key v r deeper (body_word n) q)

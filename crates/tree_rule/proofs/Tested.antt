@@ -23,14 +23,16 @@ pub record AllRight (site : ℕ → Site) (at : ℕ → ℕ) (cells bodies : Lis
   pub bodies_named : (n : ℕ) → IsIn bodies n → IsNamedSomewhere at cells (body_word n)
 
 -- what names rightly and is a body's word names one of the list, which lies under the key
-pub right_body : (site : ℕ → Site) (at : ℕ → ℕ) (cells bodies : List ℕ) (key w n : ℕ) → NamesRightly site at cells bodies key w → w ≡ body_word n → IsIn bodies n × IsUnder key (site n)
+pub right_body : (site : ℕ → Site) (at : ℕ → ℕ) (cells bodies : List ℕ) (key w n : ℕ) → NamesRightly site at cells bodies key w → w ≡ body_word n
+    → IsIn bodies n × IsUnder key (site n)
 right_body site at cells bodies key w n (inl z) e = absurd (omega arith)
 right_body site at cells bodies key w n (inr (inl b)) e =
     let same : b.0 ≡ n = omega (arith, b.1) in subst (λ (m : ℕ). IsIn bodies m × IsUnder key (site m)) same (b.2, b.3)
 right_body site at cells bodies key w n (inr (inr c)) e = absurd (omega (arith, c.1))
 
 -- what names rightly and is a cell's word names one of the list, which has the key
-pub right_cell_word : (site : ℕ → Site) (at : ℕ → ℕ) (cells bodies : List ℕ) (key w c : ℕ) → NamesRightly site at cells bodies key w → w ≡ cell_word c → IsIn cells c × (at (key_place c) ≡ key)
+pub right_cell_word : (site : ℕ → Site) (at : ℕ → ℕ) (cells bodies : List ℕ) (key w c : ℕ) → NamesRightly site at cells bodies key w → w ≡ cell_word c
+    → IsIn cells c × (at (key_place c) ≡ key)
 right_cell_word site at cells bodies key w c (inl z) e = absurd (omega arith)
 right_cell_word site at cells bodies key w c (inr (inl b)) e = absurd (omega (arith, b.1))
 right_cell_word site at cells bodies key w c (inr (inr d)) e =
@@ -74,7 +76,8 @@ stands_of_right site at cells bodies r =
 
 -- where all parts are right, the words name exactly
 pub exact_of_right : (site : ℕ → Site) (at : ℕ → ℕ) (cells bodies : List ℕ) → AllRight site at cells bodies → NamesExactly site at 0 1 cells [] bodies
-exact_of_right site at cells bodies r = exact_of_stands site at 0 1 cells [] bodies (stands_of_right site at cells bodies r) (subst NoneTwice (sym (append-nil cells)) r.none_twice)
+exact_of_right site at cells bodies r =
+    exact_of_stands site at 0 1 cells [] bodies (stands_of_right site at cells bodies r) (subst NoneTwice (sym (append-nil cells)) r.none_twice)
 
 -- a word that names what is right names rightly
 names_right : (site : ℕ → Site) (at : ℕ → ℕ) (cells bodies : List ℕ) → NamesExactly site at 0 1 cells [] bodies
@@ -89,7 +92,8 @@ pub right_word : (site : ℕ → Site) (at : ℕ → ℕ) (cells bodies : List �
 right_word site at cells bodies h key place p = names_right site at cells bodies h key place p (word_is (at place))
 
 -- each cell is right where the words name exactly
-pub right_cell : (site : ℕ → Site) (at : ℕ → ℕ) (cells bodies : List ℕ) → NamesExactly site at 0 1 cells [] bodies → (c : ℕ) → IsIn cells c → IsRightCell site at cells bodies c
+pub right_cell : (site : ℕ → Site) (at : ℕ → ℕ) (cells bodies : List ℕ) → NamesExactly site at 0 1 cells [] bodies → (c : ℕ) → IsIn cells c
+    → IsRightCell site at cells bodies c
 right_cell site at cells bodies h c p =
     let o = h.cell_once c p in
     record {
@@ -101,8 +105,10 @@ right_cell site at cells bodies h c p =
     }
 
 -- each body is named where the words name exactly
-pub body_is_named : (site : ℕ → Site) (at : ℕ → ℕ) (cells bodies : List ℕ) → NamesExactly site at 0 1 cells [] bodies → (n : ℕ) → IsIn bodies n → IsNamedSomewhere at cells (body_word n)
-body_is_named site at cells bodies h n b = let o = h.body_once n b in record { key = o.key; place = o.place; published = o.published; named = word_of_body (at o.place) n o.named }
+pub body_is_named : (site : ℕ → Site) (at : ℕ → ℕ) (cells bodies : List ℕ) → NamesExactly site at 0 1 cells [] bodies → (n : ℕ) → IsIn bodies n
+    → IsNamedSomewhere at cells (body_word n)
+body_is_named site at cells bodies h n b = let o = h.body_once n b in
+    record { key = o.key; place = o.place; published = o.published; named = word_of_body (at o.place) n o.named }
 
 -- the number at a place of a list is a member
 pub member_at : (xs : List ℕ) (k : ℕ) → k < length xs → IsIn xs (get_or xs k 0)
@@ -152,7 +158,8 @@ pub not_once : (xs : List ℕ) (k : ℕ) → k < length xs → IsIn (drop (k + 1
 not_once xs k l i d = rest_once xs k d l (subst (λ (m : ℕ). IsIn (drop m xs) (get_or xs k 0)) (add-one k) i)
 
 -- where one body lies under a key, more than a leaf holds do where another does
-pub more_of_other : (site : ℕ → Site) (bodies : List ℕ) (key x : ℕ) → IsIn bodies x → IsUnder key (site x) → HasOtherUnder site bodies key x → HasMoreUnder site bodies key
+pub more_of_other : (site : ℕ → Site) (bodies : List ℕ) (key x : ℕ) → IsIn bodies x → IsUnder key (site x) → HasOtherUnder site bodies key x
+    → HasMoreUnder site bodies key
 more_of_other site bodies key x i u h = more_of_two x h.other (i, u) (h.other_in, h.other_under) h.differ
 
 -- of two bodies under a key one is another than a given one
@@ -197,14 +204,16 @@ pub under_same : (key : ℕ) (s t : Site) → s ≡ t → IsUnder key s → IsUn
 under_same key s t e u = subst (λ (x : Site). IsUnder key x) e u
 
 -- the answer about the key of a cell that was found
-pub cell_found : (at : ℕ → ℕ) (cells : List ℕ) (c w v key : ℕ) → w ≡ cell_word c → IsIn cells c → v ≡ at (key_place c) → IsTrue (eqb v key) ↔ NamesCellOf at cells key w
+pub cell_found : (at : ℕ → ℕ) (cells : List ℕ) (c w v key : ℕ) → w ≡ cell_word c → IsIn cells c → v ≡ at (key_place c)
+    → IsTrue (eqb v key) ↔ NamesCellOf at cells key w
 cell_found at cells c w v key e i f = (
   (λ t. (c, e, i, sym f ∙ eqb-true v key t)),
   (λ q. let same : q.0 ≡ c = omega (arith, q.1, e) in eq-eqb v key (f ∙ subst (λ (x : ℕ). at (key_place x) ≡ key) same q.3)),
 )
 
 -- the answer about the point of a body that was found
-pub body_found : (b : Bool) (site : ℕ → Site) (bodies : List ℕ) (x w key : ℕ) (s : Site) → w ≡ body_word x → IsIn bodies x → s ≡ site x → IsTrue b ↔ IsUnder key s
+pub body_found : (b : Bool) (site : ℕ → Site) (bodies : List ℕ) (x w key : ℕ) (s : Site) → w ≡ body_word x → IsIn bodies x → s ≡ site x
+    → IsTrue b ↔ IsUnder key s
     → IsTrue b ↔ NamesBodyUnder site bodies key w
 body_found b site bodies x w key s e i f h = (
   (λ t. (x, e, i, under_same key s (site x) f (h.0 t))),
@@ -219,7 +228,8 @@ in_front (suc m) (x ∷ xs) n (inl e) = inl e
 in_front (suc m) (x ∷ xs) n (inr i) = inr (in_front m xs n i)
 
 -- the answer of the whole test
-pub whole_answer : (b : Bool) (m : ℕ) (site : ℕ → Site) (at : ℕ → ℕ) (cells bodies : List ℕ) → All (λ n. n < m) bodies → NoneTwice cells → NamesRightly site at cells bodies 1 (at 0)
+pub whole_answer : (b : Bool) (m : ℕ) (site : ℕ → Site) (at : ℕ → ℕ) (cells bodies : List ℕ) → All (λ n. n < m) bodies → NoneTwice cells
+    → NamesRightly site at cells bodies 1 (at 0)
     → ((c : ℕ) → IsIn cells c → IsRightCell site at cells bodies c) → IsTrue b ↔ ((n : ℕ) → IsIn bodies n → IsNamedSomewhere at cells (body_word n))
     → IsTrue b ↔ (All (λ n. n < m) bodies × NamesExactly site at 0 1 cells [] bodies)
 whole_answer b m site at cells bodies below once root right h = (

@@ -40,20 +40,24 @@ reached_of_word site at top base P B V h s (suc level) w (Child c k p l e x) =
     Below c k w (reached_of_word site at top base P B V h s level (cell_word c) up) l x
 
 -- each cell of the set is read
-pub cell_is_reached : (site : ℕ → Site) (at : ℕ → ℕ) (top base : ℕ) (P B V : ℕ → Type 0) → StandsAmid site at top base P B V → (c : ℕ) → P c → IsReached at top (cell_word c)
+pub cell_is_reached : (site : ℕ → Site) (at : ℕ → ℕ) (top base : ℕ) (P B V : ℕ → Type 0) → StandsAmid site at top base P B V → (c : ℕ) → P c
+    → IsReached at top (cell_word c)
 cell_is_reached site at top base P B V h c p =
     let f = sharer (h.shared c p) in
-    reached_of_word site at top base P B V h (site f.one) f.level (cell_word c) (subst (λ (y : ℕ). IsWordOf at top base P y (cell_word c)) f.one_under (h.cell_named c p))
+    reached_of_word site at top base P B V h (site f.one) f.level (cell_word c)
+    (subst (λ (y : ℕ). IsWordOf at top base P y (cell_word c)) f.one_under (h.cell_named c p))
 
 -- the cells of the set are those that are read
-pub cell_reached : (site : ℕ → Site) (at : ℕ → ℕ) (top base : ℕ) (P B : ℕ → Type 0) → StandsFor site at top base P B → (c : ℕ) → P c ↔ IsReached at top (cell_word c)
+pub cell_reached : (site : ℕ → Site) (at : ℕ → ℕ) (top base : ℕ) (P B : ℕ → Type 0) → StandsFor site at top base P B → (c : ℕ)
+    → P c ↔ IsReached at top (cell_word c)
 cell_reached site at top base P B h c = (
   cell_is_reached site at top base P B B h c,
   λ r. let f = key_of_reached site at top base P B h (cell_word c) r in (h.names_cell f.key c f.named).0,
 )
 
 -- the bodies of the set are those that are read
-pub body_reached : (site : ℕ → Site) (at : ℕ → ℕ) (top base : ℕ) (P B : ℕ → Type 0) → StandsFor site at top base P B → (n : ℕ) → B n ↔ IsReached at top (body_word n)
+pub body_reached : (site : ℕ → Site) (at : ℕ → ℕ) (top base : ℕ) (P B : ℕ → Type 0) → StandsFor site at top base P B → (n : ℕ)
+    → B n ↔ IsReached at top (body_word n)
 body_reached site at top base P B h n = (
   λ b. let f = h.body_named n b in reached_of_word site at top base P B B h (site n) f.level (body_word n) f.named,
   λ r. let f = key_of_reached site at top base P B h (body_word n) r in (h.names_body f.key n f.named).0,
@@ -74,7 +78,8 @@ reached_step site at top base P B V h s level w upper v (Child c k p l e f) y le
 
 -- a point's word is read below each of its words above
 pub reached_below : (site : ℕ → Site) (at : ℕ → ℕ) (top base : ℕ) (P B V : ℕ → Type 0) → StandsAmid site at top base P B V
-    → (s : Site) (level w upper v : ℕ) → IsWordOf at top base P (key_of s level) w → IsWordOf at top base P (key_of s upper) v → upper ≤ level → IsReached at v w
+    → (s : Site) (level w upper v : ℕ) → IsWordOf at top base P (key_of s level) w → IsWordOf at top base P (key_of s upper) v → upper ≤ level
+    → IsReached at v w
 reached_below site at top base P B V h s zero w upper v x y le =
     let z : upper ≡ 0 = omega arith in
     let y' : IsWordOf at top base P (key_of s 0) v = subst (λ (u : ℕ). IsWordOf at top base P (key_of s u) v) z y in
@@ -153,7 +158,8 @@ order_complete site at top base P B h (suc f) level w n shallow deep b x =
           Child c k g.0 (octant-small s level) (key-suc s level ∙ ap (λ y. 8 * y + octant_of s level) (sym g.1)) refl in
           let i : IsIn (order (tree_from at f (at (child_place c k)))) n =
           order_complete site at top base P B h f (suc level) (at (child_place c k)) n (omega (arith, t.shallow)) (omega arith) b kid in
-          subst (λ (y : List ℕ). IsIn y n) (sym (order_of_cell at f w c z.2)) (joined_in (λ y. order (tree_from at f (at (child_place c y)))) 8 k n (octant-small s level) i)
+          subst (λ (y : List ℕ). IsIn y n) (sym (order_of_cell at f w c z.2))
+          (joined_in (λ y. order (tree_from at f (at (child_place c y)))) 8 k n (octant-small s level) i)
     ]
 
 -- a body lies in one child's cube
@@ -204,7 +210,8 @@ amid_same site at top base P Q B M V W pq bm vw h =
       keys_differ = λ c d p q e. h.keys_differ c d ((pq c).1 p) ((pq d).1 q) e;
       cell_named = λ c p. there (at (key_place c)) (cell_word c) (h.cell_named c ((pq c).1 p));
       names_cell = λ key c x. let f = h.names_cell key c (back key (cell_word c) x) in ((pq c).0 f.0, f.1);
-      body_named = λ n b. let f = h.body_named n ((bm n).1 b) in record { level = f.level; shallow = f.shallow; named = there (key_of (site n) f.level) (body_word n) f.named };
+      body_named = λ n b. let f = h.body_named n ((bm n).1 b) in
+          record { level = f.level; shallow = f.shallow; named = there (key_of (site n) f.level) (body_word n) f.named };
       names_body = λ key n x. let f = h.names_body key n (back key (body_word n) x) in ((bm n).0 f.0, f.1);
       shared = λ c p. shared_more vw (h.shared c ((pq c).1 p));
     }
@@ -233,14 +240,16 @@ settle site at top base P B h =
     (cell_reached site at top base P B h) (order_members site at top base P B h) h
 
 -- no body stands twice in the order of the words' tree
-pub order_has_none_twice : (site : ℕ → Site) (at : ℕ → ℕ) (top base : ℕ) (P B : ℕ → Type 0) → StandsFor site at top base P B → NoneTwice (order (tree_from at 22 top))
+pub order_has_none_twice : (site : ℕ → Site) (at : ℕ → ℕ) (top base : ℕ) (P B : ℕ → Type 0) → StandsFor site at top base P B
+    → NoneTwice (order (tree_from at 22 top))
 order_has_none_twice site at top base P B h = order_once site at top base P B h 22 base top (Top refl refl) (word_is top)
 
 -- the words' tree is the canonical octree of the bodies in its own order
 pub gives_own_order : (site : ℕ → Site) (at : ℕ → ℕ) (P B : ℕ → Type 0) → StandsFor site at (at 0) 1 P B
     → tree_from at 22 (at 0) ≡ octree site (order (tree_from at 22 (at 0)))
 gives_own_order site at P B h =
-    flat_gives_canonical site at (λ c. IsReached at (at 0) (cell_word c)) (order (tree_from at 22 (at 0))) (settle site at (at 0) 1 P B h) (order_has_none_twice site at (at 0) 1 P B h)
+    flat_gives_canonical site at (λ c. IsReached at (at 0) (cell_word c)) (order (tree_from at 22 (at 0))) (settle site at (at 0) 1 P B h)
+    (order_has_none_twice site at (at 0) 1 P B h)
 
 -- a word of a key stays one where the words of the cells stay
 word_moved : (at at' : ℕ → ℕ) (top base : ℕ) (P : ℕ → Type 0)
@@ -259,9 +268,11 @@ amid_moved site at at' top base P B V keys kids h =
     word_moved at' at top base P (λ c p. sym (keys c p)) (λ c k p l. sym (kids c k p l)) in
     record {
       keys_differ = λ c d p q e. h.keys_differ c d p q (sym (keys c p) ∙ e ∙ keys d q);
-      cell_named = λ c p. subst (λ (y : ℕ). IsWordOf at' top base P y (cell_word c)) (sym (keys c p)) (there (at (key_place c)) (cell_word c) (h.cell_named c p));
+      cell_named = λ c p. subst (λ (y : ℕ). IsWordOf at' top base P y (cell_word c)) (sym (keys c p))
+          (there (at (key_place c)) (cell_word c) (h.cell_named c p));
       names_cell = λ key c x. let f = h.names_cell key c (back key (cell_word c) x) in (f.0, keys c f.0 ∙ f.1);
-      body_named = λ n b. let f = h.body_named n b in record { level = f.level; shallow = f.shallow; named = there (key_of (site n) f.level) (body_word n) f.named };
+      body_named = λ n b. let f = h.body_named n b in
+          record { level = f.level; shallow = f.shallow; named = there (key_of (site n) f.level) (body_word n) f.named };
       names_body = λ key n x. h.names_body key n (back key (body_word n) x);
       shared = λ c p. subst (λ (y : ℕ). IsShared site V y) (sym (keys c p)) (h.shared c p);
     }

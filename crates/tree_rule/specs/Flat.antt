@@ -61,7 +61,8 @@ pub record ChangedAt (at at' : ℕ → ℕ) (place w : ℕ) : Type 0 where
 
 -- the words of a list, from a root word with a key on, name a list of bodies, with a list of cells, amid a list of witnesses
 abbrev pub WordsStandAmid : List Site → List ℕ → ℕ → ℕ → List ℕ → List ℕ → List ℕ → Type 0
-WordsStandAmid sites words root base cells bodies witnesses = StandsAmid (site_at sites) (at_of words) (at_of words root) base (IsIn cells) (IsIn bodies) (IsIn witnesses)
+WordsStandAmid sites words root base cells bodies witnesses =
+    StandsAmid (site_at sites) (at_of words) (at_of words root) base (IsIn cells) (IsIn bodies) (IsIn witnesses)
 
 -- the words of a list, from a root word with a key on, stand for a list of bodies, with a list of cells
 abbrev pub WordsStandFor : List Site → List ℕ → ℕ → ℕ → List ℕ → List ℕ → Type 0

@@ -5,7 +5,7 @@ use Rattle.tree_rule.specs.declared.words.Named.{Named}
 use Rattle.tree_rule.specs.declared.words.Named.TheVariants.{Nothing, Body, Cell}
 
 -- the word says what is named
-abbrev pub IsNamed : ℕ → Named → Type 0
-IsNamed w Nothing = w ≡ 0
-IsNamed w (Body n) = w ≡ body_word n
-IsNamed w (Cell c) = w ≡ cell_word c
+abbrev pub NamesAs : ℕ → Named → Type 0
+NamesAs w Nothing = w ≡ 0
+NamesAs w (Body n) = w ≡ body_word n
+NamesAs w (Cell c) = w ≡ cell_word c

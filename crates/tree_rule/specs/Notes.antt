@@ -21,4 +21,5 @@ pub record HasNamed (at : ℕ → ℕ) (root base : ℕ) (IsCell : ℕ → Type 
 pub record AreLater (at at' : ℕ → ℕ) (root base : ℕ) (IsCell IsLaterCell : ℕ → Type 0) : Type 0 where
   pub cells_stay : (c : ℕ) → IsCell c → IsLaterCell c
   pub keys_stay : (c : ℕ) → IsCell c → at' (key_place c) ≡ at (key_place c)
-  pub words_go_on : (key place : ℕ) → IsPlaceOf at root base IsCell key place → (at' place ≡ at place) ⊎ ((at place ≡ 0) ⊎ ((c : ℕ) × (at' place ≡ cell_word c)))
+  pub words_go_on : (key place : ℕ) → IsPlaceOf at root base IsCell key place
+      → (at' place ≡ at place) ⊎ ((at place ≡ 0) ⊎ ((c : ℕ) × (at' place ≡ cell_word c)))

@@ -8,7 +8,8 @@ use Rattle.tree_rule.specs.Words.{child_place, key_place, body_word, cell_word, 
 -- A word that is read on the way down from the top word, with the key of its cube.
 pub data IsReachedAs (at : ℕ → ℕ) (top base : ℕ) : ℕ → ℕ → Type 0 where
   HereAs : (key w : ℕ) → key ≡ base → w ≡ top → IsReachedAs at top base key w
-  BelowAs : (c k parent key w : ℕ) → IsReachedAs at top base parent (cell_word c) → k < 8 → key ≡ 8 * parent + k → w ≡ at (child_place c k) → IsReachedAs at top base key w
+  BelowAs : (c k parent key w : ℕ) → IsReachedAs at top base parent (cell_word c) → k < 8 → key ≡ 8 * parent + k → w ≡ at (child_place c k)
+      → IsReachedAs at top base key w
 
 -- more bodies are read below a word than a leaf holds
 abbrev pub HasMoreBodies : (ℕ → ℕ) → ℕ → Type 0

@@ -2,7 +2,7 @@
 
 ghost use Rattle.std.specs.Prelude.{◌≡◌, ◌<◌, ◌^◌, ◌*◌};
 ghost use Rattle.tree_rule.specs.Words.{body_word, cell_word, child_place, key_place, lock_place};
-ghost use Rattle.tree_rule.specs.Naming.{IsNamed};
+ghost use Rattle.tree_rule.specs.Naming.{NamesAs};
 
 use octant_code::{LEVELS, MOST_BODIES};
 
@@ -36,7 +36,7 @@ pub enum Named {
 #[inline]
 pub fn named_by(word: u64) -> Named
     requires { word < 2 ^ 33 }
-    ensures { IsNamed word result }
+    ensures { NamesAs word result }
 {
     if word == 0 {
         Named::Nothing

@@ -6,7 +6,8 @@ use Rattle.tree_rule.proofs.stands.are_named.Goals as goal
 
 pub returns-then-not-is_named : goal.returns-then-not-is_named
 returns-then-not-is_named c = false_where _ (λ h. denied _ c.if-not-is_named.ensures
-    (subst (λ (w : ℕ). IsNamedSomewhere (at_of c.args.words.now) c.args.cells.now w) (sym c.word_of_body.ensures) (h _ (member_at c.args.bodies.now c.loop-x.x-index (omega arith)))))
+    (subst (λ (w : ℕ). IsNamedSomewhere (at_of c.args.words.now) c.args.cells.now w) (sym c.word_of_body.ensures)
+    (h _ (member_at c.args.bodies.now c.loop-x.x-index (omega arith)))))
 
 pub returns : goal.returns
 returns c = true_where _

@@ -15,10 +15,12 @@ overflow_add-first c = omega (arith, c.key_word-first.ensures, cell_key_small (a
 pub names_rightly-requires-clause-key : goal.names_rightly-requires-clause-key
 names_rightly-requires-clause-key c =
     let small : c.loop-k.k < 8 = omega arith in
-    subst (λ (x : ℕ). IsKey (8 * x + c.loop-k.k)) (sym c.key_word-first.ensures) (child_key (at_of c.args.words.now (key_place c.args.c)) c.loop-k.k c.requires.key small)
+    subst (λ (x : ℕ). IsKey (8 * x + c.loop-k.k)) (sym c.key_word-first.ensures)
+    (child_key (at_of c.args.words.now (key_place c.args.c)) c.loop-k.k c.requires.key small)
 
 pub loop-k-preserved : goal.loop-k-preserved
 loop-k-preserved c = below_more _ _ c.loop-k.invariant (
     let right = NamesRightly (site_at c.args.points.now) (at_of c.args.words.now) c.args.cells.now c.args.bodies.now in
     subst (λ (x : ℕ). right (8 * x + c.loop-k.k) (at_of c.args.words.now (child_place c.args.c c.loop-k.k))) c.key_word-first.ensures
-    (subst (λ (y : ℕ). right (8 * c.key_word-first.result + c.loop-k.k) y) (c.word_at-w.ensures ∙ ap (at_of c.args.words.now) c.place_of_child.ensures) (c.if-not-names_rightly.ensures.0 refl)))
+    (subst (λ (y : ℕ). right (8 * c.key_word-first.result + c.loop-k.k) y) (c.word_at-w.ensures ∙ ap (at_of c.args.words.now) c.place_of_child.ensures)
+    (c.if-not-names_rightly.ensures.0 refl)))

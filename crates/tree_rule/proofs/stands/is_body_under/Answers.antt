@@ -9,7 +9,8 @@ at-requires c = c.requires.known c.loop-x.x-index 0 (omega arith)
 
 pub returns-then-word_of_body-w : goal.returns-then-word_of_body-w
 returns-then-word_of_body-w c =
-    body_found c.key_has.result (site_at c.args.points.now) c.args.bodies.now _ c.args.w c.args.key c.at.result (sym c.if-word_of_body-w.true ∙ c.word_of_body.ensures)
+    body_found c.key_has.result (site_at c.args.points.now) c.args.bodies.now _ c.args.w c.args.key c.at.result
+    (sym c.if-word_of_body-w.true ∙ c.word_of_body.ensures)
     (member_at c.args.bodies.now c.loop-x.x-index (omega arith)) c.at.ensures.value c.key_has.ensures
 
 pub returns : goal.returns

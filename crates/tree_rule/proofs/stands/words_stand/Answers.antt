@@ -11,11 +11,13 @@ returns-then-not-names_rightly c =
     let site = site_at c.args.points.now in
     let at = at_of c.args.words.now in
     false_where _ (λ h. denied _ c.if-not-names_rightly.ensures
-    (subst (λ (x : ℕ). NamesRightly site at c.args.cells.now c.args.bodies.now 1 x) (sym c.word_at-root.ensures) (right_word site at c.args.cells.now c.args.bodies.now h.1 1 0 (TopPlace refl refl))))
+    (subst (λ (x : ℕ). NamesRightly site at c.args.cells.now c.args.bodies.now 1 x) (sym c.word_at-root.ensures)
+    (right_word site at c.args.cells.now c.args.bodies.now h.1 1 0 (TopPlace refl refl))))
 
 pub returns-then-not-are_right_cells : goal.returns-then-not-are_right_cells
 returns-then-not-are_right_cells c =
-    false_where _ (λ h. denied _ c.if-not-are_right_cells.ensures (right_cell (site_at c.args.points.now) (at_of c.args.words.now) c.args.cells.now c.args.bodies.now h.1))
+    false_where _ (λ h. denied _ c.if-not-are_right_cells.ensures
+    (right_cell (site_at c.args.points.now) (at_of c.args.words.now) c.args.cells.now c.args.bodies.now h.1))
 
 pub returns : goal.returns
 returns c =

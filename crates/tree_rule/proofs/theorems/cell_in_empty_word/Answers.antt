@@ -9,6 +9,8 @@ pub returns : goal.returns
 returns c =
     let at = at_of c.args.words.now in
     let w = cell_word c.args.c in
-    cell_put (site_at c.args.points.now) at (at_of (slice_set c.args.words.now c.args.place w)) c.args.root c.args.base c.args.cells.now c.args.key c.args.place c.requires.published
-    c.args.others.now c.args.bodies.now c.args.new_cells.now c.args.new_bodies.now w c.requires.stands (word_of_nothing (at c.args.place) c.requires.empty) c.requires.part
+    cell_put (site_at c.args.points.now) at
+    (at_of (slice_set c.args.words.now c.args.place w)) c.args.root c.args.base c.args.cells.now c.args.key c.args.place c.requires.published
+    c.args.others.now c.args.bodies.now c.args.new_cells.now c.args.new_bodies.now w c.requires.stands
+    (word_of_nothing (at c.args.place) c.requires.empty) c.requires.part
     (changed_at c.args.words.now c.args.place w c.requires.inside)

@@ -13,6 +13,8 @@ returns c =
     let at = at_of c.args.words.now in
     let after = at_of (slice_set c.args.words.now c.args.place 0) in
     let named = word_of_cell (at c.args.place) c.args.c c.requires.named in
-    cells_kept site at after c.args.root c.args.base c.args.cells.now c.args.kept.now c.args.bodies.now c.args.witnesses.now c.args.place c.args.c named c.requires.kept
+    cells_kept site at after c.args.root c.args.base c.args.cells.now c.args.kept.now c.args.bodies.now c.args.witnesses.now c.args.place c.args.c named
+    c.requires.kept
     (emptied site at after c.args.root c.args.base (IsIn c.args.cells.now) (IsIn c.args.bodies.now) (IsIn c.args.witnesses.now) c.args.key c.args.place
-    c.requires.stands c.requires.published (λ n q. c.requires.empty n (subst (λ (w : ℕ). IsReached at w (body_word n)) named q)) (changed_at c.args.words.now c.args.place 0 c.requires.inside))
+    c.requires.stands c.requires.published (λ n q. c.requires.empty n (subst (λ (w : ℕ). IsReached at w (body_word n)) named q))
+    (changed_at c.args.words.now c.args.place 0 c.requires.inside))

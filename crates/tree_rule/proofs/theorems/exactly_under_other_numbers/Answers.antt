@@ -11,5 +11,7 @@ returns c =
     let at = at_of c.args.words.now in
     let after = at_of c.args.after.now in
     exact_of_stands site after c.args.after_root c.args.base c.args.after_cells.now c.args.after_others.now c.args.bodies.now
-    (renumbered_lists site at after (at c.args.root) (after c.args.after_root) c.args.base c.args.cells.now c.args.after_cells.now c.args.bodies.now c.args.bodies.now (slice_index c.args.numbers.now)
-    (stands_of_exact site at c.args.root c.args.base c.args.cells.now c.args.others.now c.args.bodies.now c.requires.stands) c.requires.renumbered c.requires.root c.requires.cells) c.requires.once
+    (renumbered_lists site at after (at c.args.root)
+    (after c.args.after_root) c.args.base c.args.cells.now c.args.after_cells.now c.args.bodies.now c.args.bodies.now (slice_index c.args.numbers.now)
+    (stands_of_exact site at c.args.root c.args.base c.args.cells.now c.args.others.now c.args.bodies.now c.requires.stands) c.requires.renumbered
+    c.requires.root c.requires.cells) c.requires.once

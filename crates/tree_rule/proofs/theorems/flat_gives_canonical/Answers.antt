@@ -5,4 +5,5 @@ use Rattle.tree_rule.proofs.Canonical.{flat_gives_canonical}
 use Rattle.tree_rule.proofs.theorems.flat_gives_canonical.Goals as goal
 
 pub returns : goal.returns
-returns c = flat_gives_canonical (site_at c.args.points.now) (at_of c.args.words.now) (IsIn c.args.cells.now) c.args.bodies.now c.requires.stands c.requires.distinct
+returns c = flat_gives_canonical (site_at c.args.points.now) (at_of c.args.words.now)
+    (IsIn c.args.cells.now) c.args.bodies.now c.requires.stands c.requires.distinct
