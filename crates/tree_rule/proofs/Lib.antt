@@ -1,20 +1,20 @@
-pub mod Names
-pub mod Shared
-pub mod Flat
-pub mod Once
-pub mod Canonical
-pub mod Walk
-pub mod Parts
-pub mod Chain
-pub mod Sound
-pub mod Replace
-pub mod Graft
-pub mod Cut
-pub mod Renumber
-pub mod Count
-pub mod Exact
-pub mod Complete
-pub mod Published
-pub mod Noted
-pub mod Tested
+mod Names
+mod Shared
+mod Flat
+mod Once
+mod Canonical
+mod Walk
+mod Parts
+mod Chain
+mod Sound
+mod Replace
+mod Graft
+mod Cut
+mod Renumber
+mod Count
+mod Exact
+mod Complete
+mod Published
+mod Noted
+mod Tested
 pub mod Laws
