@@ -14,8 +14,7 @@ use Rattle.bh_model.proofs.PullBounds.{StandsApart, pull_among, pull_fits, small
 use Rattle.bh_model.proofs.Standing.{count_numbers, stands_of_all, total_of_all}
 use Rattle.bh_model.specs.Standing.{Stands}
 use Rattle.mass_moments.specs.Kept.{matter_of}
-use Rattle.octree.specs.Reading.{IsOctreeOf}
-use Rattle.octree.specs.Stored.{Stored, tree_of}
+use Rattle.octree.specs.Stored.{IsOctreeOf, Stored, tree_of}
 use Rattle.scene_file.specs.Bodies.{AreBodies, nobody, sites_of, total_mass}
 use Rattle.scene_file.specs.declared.bodies.Body.{Body}
 use Rattle.force_walk.specs.Cubes.{IsTreeOfCube}

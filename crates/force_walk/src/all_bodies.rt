@@ -6,8 +6,7 @@ ghost use Rattle.force_walk.specs.Flat.{AreLeast, IsLaid};
 ghost use Rattle.force_walk.specs.Placed.{IsPlaced};
 ghost use Rattle.force_walk.specs.Walks.{IsPullAmong, pulls};
 ghost use Rattle.mass_moments.specs.Kept.{HaveMatter, matter_of};
-ghost use Rattle.octree.specs.Reading.{IsOctreeOf};
-ghost use Rattle.octree.specs.Stored.{tree_of};
+ghost use Rattle.octree.specs.Stored.{IsOctreeOf, tree_of};
 ghost use Rattle.scene_file.specs.Bodies.{sites_of};
 
 use crate::lay::flat_table;

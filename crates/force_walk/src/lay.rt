@@ -4,9 +4,8 @@ ghost use Rattle.std.specs.Prelude.{◌≡◌, ◌<◌, ◌-◌, ◌^◌, ◌∷
 ghost use Rattle.force_walk.specs.Cubes.{IsTreeOfCube};
 ghost use Rattle.force_walk.specs.Flat.{body_node, flat, kept_node, no_node};
 ghost use Rattle.mass_moments.specs.Kept.{HaveMatter, matter_of, moment_at};
-ghost use Rattle.octree.specs.Reading.{IsOctreeOf};
+ghost use Rattle.octree.specs.Stored.{IsOctreeOf, tree_of};
 ghost use Rattle.octree.specs.Spot.{tree_under};
-ghost use Rattle.octree.specs.Stored.{tree_of};
 ghost use Rattle.scene_file.specs.Bodies.{sites_of};
 
 use crate::node::WalkNode;

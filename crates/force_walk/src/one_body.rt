@@ -8,9 +8,8 @@ ghost use Rattle.force_walk.specs.Flat.{IsLaid, is_opened};
 ghost use Rattle.force_walk.specs.Views.{IsView, seen};
 ghost use Rattle.force_walk.specs.Walks.{IsPullAmong};
 ghost use Rattle.mass_moments.specs.Kept.{HaveMatter, matter_of};
-ghost use Rattle.octree.specs.Reading.{IsOctreeOf};
+ghost use Rattle.octree.specs.Stored.{IsOctreeOf, tree_of};
 ghost use Rattle.octree.specs.Spot.{tree_under};
-ghost use Rattle.octree.specs.Stored.{tree_of};
 ghost use Rattle.scene_file.specs.Bodies.{sites_of};
 
 use crate::lay::{node_of_body, node_of_cell};

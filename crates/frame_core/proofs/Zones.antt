@@ -11,8 +11,7 @@ use Rattle.bh_model.proofs.ZoneCuts.{one_zone, zone_from-cost, zone_from-member}
 use Rattle.bh_model.specs.Bodies.{IsIn, numbers}
 use Rattle.bh_model.specs.Trees.{Tree, greatest, octree, order}
 use Rattle.bh_model.specs.Zones.{IsInOneZone, cost_of, greatest_cost, zone, zones}
-use Rattle.octree.specs.Reading.{IsOctreeOf}
-use Rattle.octree.specs.Stored.{Stored, tree_of}
+use Rattle.octree.specs.Stored.{IsOctreeOf, Stored, tree_of}
 use Rattle.scene_file.specs.Bodies.{AreBodies, sites_of}
 use Rattle.scene_file.specs.declared.bodies.Body.{Body}
 use Rattle.frame_core.specs.Frames.{tree_of_bodies}

@@ -7,8 +7,7 @@ use Rattle.bh_model.specs.Zones.{first_costs, zones}
 use Rattle.bh_model.specs.declared.pull.Pull.{Pull}
 use Rattle.force_walk.specs.Walks.{pulls}
 use Rattle.mass_moments.specs.Kept.{IsCost, cost_at, matter_of}
-use Rattle.octree.specs.Reading.{IsOctreeOf}
-use Rattle.octree.specs.Stored.{Stored}
+use Rattle.octree.specs.Stored.{IsOctreeOf, Stored}
 use Rattle.probe.specs.Figures.{FrameFigures}
 use Rattle.scene_file.specs.Bodies.{sites_of}
 use Rattle.scene_file.specs.declared.bodies.Body.{Body}

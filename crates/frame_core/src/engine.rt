@@ -1,7 +1,7 @@
 //! The engine of a run.
 
 ghost use Rattle.std.specs.Prelude.{IfOk};
-ghost use Rattle.octree.specs.Reading.{IsOctreeOf};
+ghost use Rattle.octree.specs.Stored.{IsOctreeOf};
 ghost use Rattle.scene_file.specs.Bodies.{sites_of};
 
 use crate::made::{Made, make};
@@ -52,7 +52,7 @@ impl Engine {
     ghost use Rattle.frame_core.specs.Engines.{frame_of, opened, refused, with_frame, with_tree};
     ghost use Rattle.frame_core.specs.Frames.{pull_on, tree_of_bodies};
     ghost use Rattle.mass_moments.specs.Kept.{cost_at};
-    ghost use Rattle.octree.specs.Reading.{IsOctreeOf};
+    ghost use Rattle.octree.specs.Stored.{IsOctreeOf};
     ghost use Rattle.scene_file.specs.Bodies.{sites_of};
 
     /// The engine of a plan and bodies, with a cost of 1 for each body. It has no tree yet.

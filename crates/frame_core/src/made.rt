@@ -5,7 +5,7 @@ ghost use Rattle.bh_model.specs.Zones.{zones};
 ghost use Rattle.force_walk.specs.Walks.{pulls};
 ghost use Rattle.frame_core.specs.Frames.{frame_figures, tree_of_bodies};
 ghost use Rattle.mass_moments.specs.Kept.{IsCost, cost_at, matter_of};
-ghost use Rattle.octree.specs.Reading.{IsOctreeOf};
+ghost use Rattle.octree.specs.Stored.{IsOctreeOf};
 ghost use Rattle.scene_file.specs.Bodies.{sites_of};
 
 use crate::sums::{greatest_cost, sum_up, whole_cost};

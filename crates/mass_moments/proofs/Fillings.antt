@@ -4,8 +4,7 @@ use Rattle.std.proofs.lemmas.Bool.{cases_lt}
 use Rattle.bh_model.proofs.Equal.{same_or_not}
 use Rattle.bh_model.specs.Moments.{FitsWords, Matter, add_moment, moment, no_moment}
 use Rattle.bh_model.specs.declared.moment.Moment.{Moment}
-use Rattle.octree.specs.Reading.{tree_below}
-use Rattle.octree.specs.Spot.{IsCellUnder, IsUnderChild, Spot, cell_at, child_under, tree_under}
+use Rattle.octree.specs.Spot.{IsCellUnder, IsUnderChild, Spot, cell_at, child_under, tree_below, tree_under}
 use Rattle.octree.specs.Subtree.{IsCellAt, IsChildOf}
 use Rattle.mass_moments.proofs.ChildMoments.{moment_upto, none_in_cube, small_child, sum_in_cube, sums_fit, upto_all, upto_more, upto_none}
 use Rattle.mass_moments.specs.Filling.{AreFilled, AreProductsInCube, AreSmall}

@@ -3,8 +3,7 @@ use Rattle.std.specs.Prelude.{ℕ, ◌*◌, ◌^◌, ◌<◌, ◌≤◌, ◌≡�
 use Rattle.bh_model.specs.Moments.{Matter, mass_of, moment, total}
 use Rattle.bh_model.specs.Trees.{Tree}
 use Rattle.bh_model.specs.declared.moment.Moment.{Moment}
-use Rattle.octree.specs.Reading.{tree_below}
-use Rattle.octree.specs.Spot.{IsCellUnder, Spot}
+use Rattle.octree.specs.Spot.{IsCellUnder, Spot, tree_below}
 use Rattle.mass_moments.specs.Kept.{moment_at}
 
 -- the totals of a tree that have a bound: mass, bodies and cost

@@ -5,8 +5,7 @@ use Rattle.bh_model.specs.Moments.{Matter, centre, centre_of, mass_of, moment, n
 pub use Rattle.bh_model.specs.Zones.{IsCost, cost_at}
 use Rattle.bh_model.specs.declared.moment.Moment.{Moment}
 use Rattle.octree.specs.Stored.{Stored}
-use Rattle.octree.specs.Reading.{tree_below}
-use Rattle.octree.specs.Spot.{IsReachable}
+use Rattle.octree.specs.Spot.{IsReachable, tree_below}
 use Rattle.scene_file.specs.Bodies.{body_at, sites_of}
 use Rattle.scene_file.specs.declared.bodies.Body.{Body}
 

@@ -3,7 +3,7 @@
 ghost use Rattle.std.specs.Prelude.{◌≡◌, All, IfOk, length};
 ghost use Rattle.bh_model.specs.Zones.{IsCost, cost_at};
 ghost use Rattle.mass_moments.specs.Kept.{AreMoments, matter_of};
-ghost use Rattle.octree.specs.Reading.{IsOctreeOf};
+ghost use Rattle.octree.specs.Stored.{IsOctreeOf};
 ghost use Rattle.scene_file.specs.Bodies.{sites_of};
 
 use crate::fill::fill;

@@ -4,8 +4,7 @@ ghost use Rattle.std.specs.Prelude.{◌≡◌};
 ghost use Rattle.bh_model.specs.Trees.{order};
 ghost use Rattle.bh_model.specs.Zones.{cost_at, cost_of};
 ghost use Rattle.mass_moments.specs.Kept.{HaveCosts, moment_at};
-ghost use Rattle.octree.specs.Reading.{tree_below};
-ghost use Rattle.octree.specs.Spot.{IsReachable};
+ghost use Rattle.octree.specs.Spot.{IsReachable, tree_below};
 
 use crate::table::Moments;
 use octree::{CellNo, Octree};

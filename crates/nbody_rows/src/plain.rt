@@ -4,7 +4,7 @@
 ghost use Rattle.std.specs.Prelude.{◌≡◌, ◌<◌, ◌≤◌, ◌^◌, All, IfOk, length, map};
 ghost use Rattle.bh_model.specs.Bodies.{numbers};
 ghost use Rattle.bh_model.specs.Zones.{IsCost};
-ghost use Rattle.octree.specs.Reading.{IsOctreeOf};
+ghost use Rattle.octree.specs.Stored.{IsOctreeOf};
 ghost use Rattle.scene_file.specs.Bodies.{sites_of};
 ghost use Rattle.scene_file.specs.declared.bodies.Body.{Body};
 

@@ -3,7 +3,7 @@
 ghost use Rattle.std.specs.Prelude.{◌≡◌, ◌+◌, ◌*◌, ◌<◌, ◌≤◌, All, IfOk, length};
 ghost use Rattle.bh_model.specs.Plans.{HasWorkers};
 ghost use Rattle.mass_moments.specs.Kept.{IsCost};
-ghost use Rattle.octree.specs.Reading.{IsOctreeOf};
+ghost use Rattle.octree.specs.Stored.{IsOctreeOf};
 ghost use Rattle.scene_file.specs.Bodies.{sites_of};
 
 use costzones::zone;

@@ -1,5 +1,4 @@
 pub mod Laws
-pub mod Reading
 mod Words
 mod ReadWords
 mod Locks

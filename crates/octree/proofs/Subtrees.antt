@@ -219,16 +219,6 @@ bodies_of_spot o w r =
 pub bodies_of_tree : (o : Stored) → IsStored o → (n : ℕ) → IsIn (order (tree_of o)) n ↔ HasBody o.words n
 bodies_of_tree o stored = bodies_of_spot o (root_word o) (root_spot o stored)
 
--- the bodies of a spot's tree are the octree's
-pub spot_bodies : (s : Spot) → IsSpot s → (n : ℕ) → IsIn (order (tree_under s)) n → HasBody s.octree.words n
-unfolding tree_under
-spot_bodies s r n i =
-    all_read (at_of s.octree.words) (root_word s.octree) s.word (body_word n) (spot_read s r) ((bodies_of_spot s.octree s.word r n).0 i)
-  where
-    all_read : (at : ℕ → ℕ) (top w v : ℕ) → IsReached at top w → IsReached at w v → IsReached at top v
-    all_read at top w _ u (Here v e) = subst (λ (y : ℕ). IsReached at top y) (sym e) u
-    all_read at top w _ u (Below c k v t l e) = Below c k v (all_read at top w (cell_word c) u t) l e
-
 -- ---- what stands at the top
 
 -- an empty spot
@@ -247,7 +237,7 @@ top_body s n r e =
     record {
       tree = ap (tree_of_word s.octree) e ∙ tree-body (at_of s.octree.words) 21 n;
       bare = λ d h. none_under (at_of s.octree.words) s.word (cell_word d) d (λ c f. omega arith) h refl;
-      reached = reached;
+      reached = (bodies_of_tree s.octree r.stored n).1 reached;
       small = r.stored.bodies_small n reached;
     }
 

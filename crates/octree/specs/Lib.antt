@@ -2,5 +2,4 @@ pub mod Stored
 pub mod Node
 pub mod Chain
 pub mod Spot
-pub mod Reading
 pub mod Subtree

@@ -2,7 +2,6 @@
 use Rattle.std.specs.Prelude.{ℕ, ◌-◌, ◌/◌, ◌^◌, ◌≤◌}
 use Rattle.octant_code.specs.declared.limits.TheConstants.{LEVELS}
 use Rattle.bh_model.specs.Trees.{Tree}
-pub use Rattle.bh_model.specs.Trees.{height}
 use Rattle.tree_rule.specs.Words.{HasCell, IsReached, at_of, cell_word, child_place}
 use Rattle.tree_rule.specs.Sound.{IsReachedAs}
 use Rattle.octree.specs.Stored.{IsStored, Stored, root_word, tree_of_word}

@@ -3,8 +3,8 @@ use Rattle.std.specs.Prelude.{ℕ, ◌<◌, ◌≡◌, ◌⊎◌, ◌↔◌}
 use Rattle.octant_code.specs.declared.limits.TheConstants.{MOST_BODIES}
 use Rattle.bh_model.specs.Bodies.{IsIn}
 use Rattle.bh_model.specs.Trees.{Tree, Empty, Body as OneBody, cell_of, order}
-use Rattle.tree_rule.specs.Words.{HasBody, HasCell}
-use Rattle.octree.specs.Spot.{IsCellUnder, IsUnderChild, Spot, cell_at, child_under, tree_below, tree_under}
+use Rattle.octree.specs.Stored.{tree_of}
+use Rattle.octree.specs.Spot.{IsCellUnder, IsReachable, IsUnderChild, Spot, cell_at, child_under, tree_below, tree_under}
 use Rattle.octree.specs.declared.subtree.Top.{Top}
 use Rattle.octree.specs.declared.subtree.Top.TheVariants.{Nothing, Body, Cell}
 
@@ -17,7 +17,7 @@ pub record IsNothingAt (s : Spot) : Type 0 where
 pub record IsBodyAt (s : Spot) (n : ℕ) : Type 0 where
   pub tree : tree_under s ≡ OneBody n
   pub bare : (d : ℕ) → IsCellUnder s d → ⊥
-  pub reached : HasBody s.octree.words n
+  pub reached : IsIn (order (tree_of s.octree)) n
   pub small : n < MOST_BODIES
 
 -- a cell stands below one child of a cell
@@ -43,7 +43,7 @@ pub record IsCellAt (s cell : Spot) : Type 0 where
   pub same : cell ≡ s
   pub tree : tree_under s ≡ cell_of (child_under cell)
   pub kept : tree_under s ≡ tree_below s.octree (cell_at cell)
-  pub reached : HasCell s.octree.words (cell_at cell)
+  pub reached : IsReachable s.octree (cell_at cell)
   pub parts : HasParts s cell
   pub some : HasSomeBody (tree_under s)
 

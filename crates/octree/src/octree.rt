@@ -55,11 +55,11 @@ impl Octree {
     ghost use Rattle.bh_model.specs.Trees.{cell_count, depth, octree_from, order, text};
     ghost use Rattle.bh_outside.specs.Outside.{HasCause, Writes};
     ghost use Rattle.bh_outside.specs.Text.{Puts};
-    ghost use Rattle.tree_rule.specs.Words.{at_of, child_place, HasBody, HasCell};
+    ghost use Rattle.tree_rule.specs.Words.{at_of, child_place, HasBody};
     ghost use Rattle.tree_rule.specs.Standing.{WordsNameExactly};
     ghost use Rattle.octree.specs.Node.{IsNodeOf};
     ghost use Rattle.octree.specs.Stored.{AreOctreeWords, IsBlankFrom, IsCanonical, IsInserted, IsOctreeOf, IsRoomier, IsStored, all_used, all_words, cells_of, full_tree, root_word, spare_of, tree_of, tree_with_used, word_count};
-    ghost use Rattle.octree.specs.Spot.{IsCellUnder, tree_under};
+    ghost use Rattle.octree.specs.Spot.{IsCellUnder, IsReachable, tree_under};
     ghost use Rattle.bh_model.specs.Trees.{height};
 
     /// The empty tree of the whole cube, with spare cells: at most 1,376,256.
@@ -159,7 +159,8 @@ impl Octree {
     /// How many cells are used, reachable or not. The numbers of the cells that can be reached are
     /// below.
     pub fn used(&self) -> u32
-        ensures { result ≡ self.now.used }
+        ensures value { result ≡ self.now.used }
+        ensures cells { (c : ℕ) → IsReachable self.now c → c < result }
     {
         self.used
     }
@@ -193,7 +194,7 @@ impl Octree {
         ensures octree { result.octree ≡ self.now }
         ensures tree { tree_under result ≡ tree_of self.now }
         ensures height { height (tree_under result) ≤ LEVELS }
-        ensures cells { (c : ℕ) → HasCell self.now.words c → IsCellUnder result c }
+        ensures cells { (c : ℕ) → IsReachable self.now c → IsCellUnder result c }
         ensures bodies { (n : ℕ) → IsIn (order (tree_of self.now)) n ↔ HasBody self.now.words n }
     {
         Subtree {
@@ -204,7 +205,7 @@ impl Octree {
 
     /// The node at child `k`, 0 to 7, of a cell that can be reached.
     pub fn child(&self, c: CellNo, k: u32) -> Node
-        requires reachable { HasCell self.now.words c.0 }
+        requires reachable { IsReachable self.now c.0 }
         requires octant { k < 8 }
         ensures { IsNodeOf (at_of self.now.words (child_place c.0 k)) result }
     {

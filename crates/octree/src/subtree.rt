@@ -51,19 +51,7 @@ pub enum Top<'a> {
 }
 
 impl<'a> Subtree<'a> {
-    ghost use Rattle.std.specs.Prelude.{ℕ};
-    ghost use Rattle.bh_model.specs.Bodies.{IsIn};
-    ghost use Rattle.bh_model.specs.Trees.{order};
-    ghost use Rattle.tree_rule.specs.Words.{HasBody};
-    ghost use Rattle.octree.specs.Spot.{tree_under};
     ghost use Rattle.octree.specs.Subtree.{IsTopOf};
-
-    /// The bodies of the subtree are the octree's.
-    pub fn has_bodies_of_octree(&self)
-        ensures { (n : ℕ) → IsIn (order (tree_under self.now)) n → HasBody self.now.octree.words n }
-    {
-        let _ = &self.word;
-    }
 
     /// What stands at the top.
     #[inline]

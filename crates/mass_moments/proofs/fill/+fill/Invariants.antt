@@ -1,4 +1,5 @@
-use Rattle.octree.specs.Spot.{height, tree_under}
+use Rattle.octree.specs.Spot.{tree_under}
+use Rattle.bh_model.specs.Trees.{height}
 use Rattle.mass_moments.proofs.Fillings.{AreFilledUpTo}
 use Rattle.mass_moments.specs.Centred.{AreCentred}
 use Rattle.bh_model.specs.Zones.{cost_at}

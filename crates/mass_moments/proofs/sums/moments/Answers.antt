@@ -4,7 +4,7 @@ use Rattle.octant_code.specs.Points.{site_at}
 use Rattle.bh_model.proofs.Orders.{numbers_in_order}
 use Rattle.bh_model.specs.Bodies.{IsIn}
 use Rattle.bh_model.specs.Trees.{Tree, order}
-use Rattle.octree.specs.Reading.{tree_below}
+use Rattle.octree.specs.Spot.{tree_below}
 use Rattle.octree.specs.Stored.{Stored}
 use Rattle.scene_file.specs.Bodies.{sites_of}
 use Rattle.scene_file.specs.declared.bodies.Body.{Body as BodyOf}

@@ -1,7 +1,7 @@
 use Rattle.std.proofs.Common.{◌∙◌}
 use Rattle.bh_model.proofs.Totals.{total-order}
 use Rattle.bh_model.specs.Zones.{cost_at}
-use Rattle.octree.specs.Reading.{tree_below}
+use Rattle.octree.specs.Spot.{tree_below}
 use Rattle.mass_moments.proofs.theorems.a_kept_cost_is_that_of_the_bodies.Goals as goal
 
 pub returns : goal.returns
