@@ -85,6 +85,13 @@ component-shared scale from to divisor rate gap unit slack is_gap low high sure 
 pub divisor_fits : (r2 r : ℕ) → r2 < 2 ^ 45 → r < 2 ^ 23 → r2 * r < 2 ^ 68
 divisor_fits r2 r p q = omega (arith, mul-lt r2 r (2 ^ 45) (2 ^ 23) p q)
 
+-- where its root is short
+pub short_fits : (n r : ℕ) → r < 2 ^ 21 → n < (r + 1) * (r + 1) → n < 2 ^ 42
+short_fits n r short next = omega (arith, mul-le (r + 1) (r + 1) (2 ^ 21) (2 ^ 21) (omega arith) (omega arith))
+
+pub short_divisor_fits : (r2 r : ℕ) → r2 < 2 ^ 42 → r < 2 ^ 21 → r2 * r < 2 ^ 63
+short_divisor_fits r2 r p q = omega (arith, mul-lt r2 r (2 ^ 42) (2 ^ 21) p q)
+
 -- a root fits
 pub root_fits : (n r : ℕ) → n < 2 ^ 45 → r * r ≤ n → r < 2 ^ 23
 root_fits n r h low =
