@@ -1,5 +1,5 @@
 -- From which squared distance on a cube is far.
-use Rattle.std.proofs.Common.{ℕ, ◌+◌, ◌*◌, ◌/◌, ◌%◌, ◌^◌, ◌<◌, ◌≤◌, ◌≡◌, ◌≢◌, true, false, not, ltb, refl, sym, ap, ◌∙◌, subst, arith, inl, inr}
+use Rattle.std.proofs.Common.{ℕ, ◌+◌, ◌*◌, ◌/◌, ◌%◌, ◌^◌, ◌<◌, ◌≤◌, ◌≡◌, ◌≢◌, true, false, not, ltb, sym, ap, ◌∙◌, subst, arith, inl, inr}
 use Rattle.std.proofs.lemmas.Bool.{cases_lt, le-ltb, lt-ltb}
 use Rattle.std.proofs.Math.Nat.{div-add-mod, mul-le-mul_left}
 use Rattle.std.proofs.lemmas.Nat.{mul-le, one_shl, pow-add}
@@ -41,18 +41,6 @@ four_pow d h =
 
 square_positive : (t : ℕ) → t ≢ 0 → 0 < t * t
 square_positive t h = mul-le 1 1 t t (omega arith) (omega arith)
-
-pub least_of_body : (law : PullLaw) (down : ℕ) → down ≡ 0 → IsLeast law down 1
-least_of_body law down h = record { positive = omega arith; of_body = λ _. refl; of_cell = λ cell d near. absurd (cell h) }
-
-pub least_never : (law : PullLaw) (down : ℕ) → down ≢ 0 → law.theta_num ≡ 0 → IsLeast law down (2 ^ 44)
-least_never law down cell none = record {
-  positive = omega arith;
-  of_body = λ body. absurd (cell body);
-  of_cell = λ _ d near.
-      let P : ℕ → Type 0 = λ t. ltb d (2 ^ 44) ≡ not (ltb (2 ^ down * 2 ^ down * (law.theta_den * law.theta_den)) (t * t * d)) in
-      subst P (sym none) (never_tells (2 ^ down * 2 ^ down * (law.theta_den * law.theta_den)) d (2 ^ 44) near);
-}
 
 pub least_near : (law : PullLaw) (down s near : ℕ) → down ≢ 0 → law.theta_num ≢ 0 → s ≡ 2 ^ down * 2 ^ down * (law.theta_den * law.theta_den)
     → near ≡ s / (law.theta_num * law.theta_num) → IsLeast law down (near + 1)

@@ -1,10 +1,10 @@
 -- What the flat table of a tree is, and that a walk over it is the pull of the tree.
 use Rattle.std.proofs.Common.{ℕ, ◌+◌, ◌-◌, ◌*◌, ◌^◌, ◌<◌, ◌≤◌, ◌≡◌, ◌≢◌, zero, suc, not, eqb, eq-eqb, List, [], ◌∷◌, ◌++◌, length, drop, All, refl, sym, ap, ◌∙◌, subst, arith, inl, inr, append_assoc, length-append}
-use Rattle.std.proofs.lemmas.Bool.{cases_Bool, cases_lt, ne_eqb}
+use Rattle.std.proofs.lemmas.Bool.{cases_Bool, ne_eqb}
 use Rattle.std.proofs.lemmas.Bool.Decides.{eqb_tells}
 use Rattle.std.specs.Int.{abs_diff}
 use Rattle.std.proofs.lemmas.Int.{ints}
-use Rattle.std.proofs.lemmas.List.{drop_at, get_or-append-add, get_or_append_left}
+use Rattle.std.proofs.lemmas.List.{drop_at}
 use Rattle.std.proofs.lemmas.List.Elements.{All-append, All-cons, All-nil}
 use Rattle.octant_code.specs.Space.{Site, squared_distance}
 use Rattle.octant_code.proofs.Distances.{squared_distance-parts}
@@ -44,35 +44,6 @@ unfolding flat
 flat_cell m down key child = refl
 
 -- ---- what holds of each node of the table
-
-all_front : (P : WalkNode → Type 0) (xs ys : List WalkNode) → All P (xs ++ ys) → All P xs
-all_front P xs ys h k d l =
-    let long = length-append xs ys in
-    subst P (get_or_append_left xs ys d k l) (h k d (omega arith))
-
-all_back : (P : WalkNode → Type 0) (xs ys : List WalkNode) → All P (xs ++ ys) → All P ys
-all_back P xs ys h k d l =
-    let long = length-append xs ys in
-    subst P (get_or-append-add xs ys k d) (h (length xs + k) d (omega arith))
-
--- what holds of all nodes of joined lists holds of those of each
-pub part_all : (P : WalkNode → Type 0) (g : ℕ → List WalkNode) (n k : ℕ) → All P (joined_nodes g n) → k < n → All P (g k)
-part_all P g zero k h l = absurd (omega arith)
-part_all P g (suc n) k h l =
-    elim (cases_lt k n) [
-      | inl before ↦ part_all P g n k (all_front P (joined_nodes g n) (g n) h) before
-      | inr last ↦ (let same : n ≡ k = omega arith in subst (λ (j : ℕ). All P (g j)) same (all_back P (joined_nodes g n) (g n) h))
-    ]
-
--- each of joined lists is no longer than all
-pub part_short : (g : ℕ → List WalkNode) (n k : ℕ) → k < n → length (g k) ≤ length (joined_nodes g n)
-part_short g zero k l = absurd (omega arith)
-part_short g (suc n) k l =
-    let long = length-append (joined_nodes g n) (g n) in
-    elim (cases_lt k n) [
-      | inl before ↦ (let less = part_short g n k before in omega arith)
-      | inr last ↦ (let same : n ≡ k = omega arith in subst (λ (j : ℕ). length (g j) ≤ length (joined_nodes g n ++ g n)) same (omega arith))
-    ]
 
 -- a tree has at least as much mass as bodies
 pub heavy_tree : (m : Matter) (most : ℕ) → ((n : ℕ) → n < most → 0 < m.mass n) → (down : ℕ) (tree : Tree) → Stands most down tree → total (λ n. 1) tree ≤ mass_of m tree

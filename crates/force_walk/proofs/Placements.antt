@@ -27,9 +27,6 @@ pub record ArePut (law : PullLaw) (m : Matter) (nodes : List WalkNode) (before a
   pub told : (k : ℕ) → k < i → IsPlaced law m nodes after (get_or zone k 0)
   pub kept : (n : ℕ) → IsPlaced law m nodes before n → IsPlaced law m nodes after n
 
-pub put_none : (law : PullLaw) (m : Matter) (nodes : List WalkNode) (list : List Pull) (zone : List ℕ) → ArePut law m nodes list list zone 0
-put_none law m nodes list zone = record { told = λ k l. absurd (omega arith); kept = λ n h. h }
-
 -- one right pull makes no other wrong
 placed_set : (law : PullLaw) (m : Matter) (nodes : List WalkNode) (list : List Pull) (n : ℕ) (p : Pull) → n < length list → p ≡ walked law (m.site n) nodes 0
     → (k : ℕ) → IsPlaced law m nodes list k → IsPlaced law m nodes (set list n p) k

@@ -1,13 +1,12 @@
 -- A quotient by a rate that is a little too small: the rate counts parts of one unit of the quotient, and so many parts, the slack,
 -- may be missing.
-use Rattle.std.proofs.Common.{◌≡◌, ℕ, zero, suc, ◌+◌, ◌-◌, ◌*◌, ◌/◌, ◌%◌, ◌<◌, ◌≤◌, ◌^◌, inl, inr, leb, cond, ℤ, pos, neg_ℤ, ◌-ℤ◌, subst, ap, ◌∙◌, sym, arith}
+use Rattle.std.proofs.Common.{◌≡◌, ℕ, zero, suc, ◌+◌, ◌-◌, ◌*◌, ◌/◌, ◌%◌, ◌<◌, ◌≤◌, ◌^◌, inl, inr, leb, cond, ℤ, pos, neg_ℤ, subst, ap, ◌∙◌, sym, arith}
 use Rattle.std.proofs.lemmas.Nat.{mul-le, mul-lt, div-mul-add, div-add-mod'}
 use Rattle.std.proofs.lemmas.Bool.{cases_lt}
 use Rattle.std.proofs.Math.Nat.{mul_right_comm, mul-zero, zero-div}
 use Rattle.std.proofs.lemmas.Bool.Decides.{nat_tests}
 use Rattle.std.specs.Int.{w128, abs_diff}
 use mir.Val.{to_z, of_z}
-use Rattle.std.proofs.lemmas.Int.{ints}
 use Rattle.octant_code.specs.Space.{Site, IsInCube, squared_distance}
 use Rattle.octant_code.proofs.Distances.{squared_distance-small}
 use lib.Signed.{mag}
@@ -82,16 +81,16 @@ component-shared scale from to divisor rate gap unit slack is_gap low high sure 
       | inr up ↦ let q = component-shared-up scale from to divisor rate gap unit slack up is_gap low high sure some positive in grind (arith, nat_tests)
     ]
 
--- a share of a wide rate fits
-pub wide_fits : (rate gap : ℕ) → rate < 2 ^ 52 → gap < 2 ^ 32 → rate * gap / 2 ^ 26 < 2 ^ 127
-wide_fits rate gap p q = omega (arith, mul-lt rate gap (2 ^ 52) (2 ^ 32) p q)
-
-pub cast_down : (x : ℕ) → x < 2 ^ 127 → to_z w128 (of_z w128 (pos 0 -ℤ to_z w128 x)) ≡ neg_ℤ (pos x)
-cast_down x h = omega (arith, ints)
-
 -- a divisor fits
 pub divisor_fits : (r2 r : ℕ) → r2 < 2 ^ 45 → r < 2 ^ 23 → r2 * r < 2 ^ 68
 divisor_fits r2 r p q = omega (arith, mul-lt r2 r (2 ^ 45) (2 ^ 23) p q)
+
+-- where its root is short
+pub short_fits : (n r : ℕ) → r < 2 ^ 21 → n < (r + 1) * (r + 1) → n < 2 ^ 42
+short_fits n r short next = omega (arith, mul-le (r + 1) (r + 1) (2 ^ 21) (2 ^ 21) (omega arith) (omega arith))
+
+pub short_divisor_fits : (r2 r : ℕ) → r2 < 2 ^ 42 → r < 2 ^ 21 → r2 * r < 2 ^ 63
+short_divisor_fits r2 r p q = omega (arith, mul-lt r2 r (2 ^ 42) (2 ^ 21) p q)
 
 -- a root fits
 pub root_fits : (n r : ℕ) → n < 2 ^ 45 → r * r ≤ n → r < 2 ^ 23

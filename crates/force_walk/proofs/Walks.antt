@@ -5,7 +5,7 @@ use Rattle.std.proofs.lemmas.List.{drop_all, drop-drop, drop_more}
 use Rattle.octant_code.specs.Space.{Site, squared_distance}
 use Rattle.bh_model.specs.Pulls.{IsPullLaw, IsSmall, PullLaw, add_pull, no_pull, term}
 use Rattle.bh_model.specs.declared.pull.Pull.{Pull}
-use Rattle.bh_model.proofs.PullBounds.{pull_fits, small_add, small_more, small_none}
+use Rattle.bh_model.proofs.PullBounds.{pull_fits, small_add, small_more}
 use Rattle.bh_model.proofs.Terms.{same_pull, term-small}
 use Rattle.force_walk.specs.Flat.{IsLaid, is_opened, walked}
 use Rattle.force_walk.specs.declared.node.WalkNode.{WalkNode}
@@ -44,9 +44,6 @@ walked_end law from = refl
 pub record IsOnTheWay (law : PullLaw) (from : Site) (nodes : List WalkNode) (at : ℕ) (sum : Pull) : Type 0 where
   pub whole : add_pull sum (walked law from (drop at nodes) 0) ≡ walked law from nodes 0
   pub small : IsSmall (at * 2 ^ 80) at sum
-
-pub way_begins : (law : PullLaw) (from : Site) (nodes : List WalkNode) (sum : Pull) → sum ≡ no_pull → IsOnTheWay law from nodes 0 sum
-way_begins law from nodes sum e = subst (IsOnTheWay law from nodes 0) (sym e) (record { whole = add_none (walked law from nodes 0); small = small_none _ _ })
 
 -- a node is opened
 pub way_opens : (law : PullLaw) (from : Site) (nodes : List WalkNode) (at : ℕ) (sum : Pull) (node : WalkNode) → IsOnTheWay law from nodes at sum → at < length nodes

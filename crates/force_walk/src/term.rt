@@ -9,12 +9,48 @@ use bh_model::{Law, Pull, plain_component};
 use octant_code::{Point, short_isqrt};
 
 /// The term of a mass at a point on a body at another, whose squared distance is `d2`, exactly as
-/// `bh_model::plain_term` has it. The mass is below 2^40.
+/// `bh_plain::plain_term` has it. The mass is below 2^40.
 ///
-/// Floats guess the root and one rate for all three axes, whole numbers test both, and where a test
-/// fails slower ways stand in.
+/// Floats guess the root and one rate for all three axes, and whole numbers of 64 bits test both. Where a
+/// test fails, as where `d2` and the softening come to 2^42 or more, a slower way stands in.
 #[inline]
 pub fn term_at(law: &Law, mass: u64, from: Point, to: Point, d2: u64) -> Pull
+    requires light { mass < 2 ^ 40 }
+    requires distance { d2 ≡ squared_distance from to }
+    requires apart { 0 < d2 + law.now.eps2 }
+    ensures { result ≡ term law.now mass from to }
+{
+    let x = from.x.abs_diff(to.x);
+    let y = from.y.abs_diff(to.y);
+    let z = from.z.abs_diff(to.z);
+    let r2 = d2 + law.eps2;
+    let guess = guess_of(law.g, mass, r2);
+    let root = guess.root % 0x20_0000;
+    let met = 1;
+    let rate = guess.rate;
+    if is_root(r2, root) {
+        let divisor = short_divisor(r2, root);
+        let whole = whole_of(law.g, mass);
+        if is_short_rate(whole, divisor, rate)
+            && is_sure(rate, x)
+            && is_sure(rate, y)
+            && is_sure(rate, z)
+        {
+            return Pull {
+                ax: share(rate, x, from.x <= to.x),
+                ay: share(rate, y, from.y <= to.y),
+                az: share(rate, z, from.z <= to.z),
+                met,
+            };
+        }
+    }
+    wide_term(law, mass, from, to, d2)
+}
+
+/// The same term in words of 128 bits. It stands apart, so that the way above stays short.
+#[cold]
+#[inline(never)]
+fn wide_term(law: &Law, mass: u64, from: Point, to: Point, d2: u64) -> Pull
     requires light { mass < 2 ^ 40 }
     requires distance { d2 ≡ squared_distance from to }
     requires apart { 0 < d2 + law.now.eps2 }
@@ -28,14 +64,13 @@ pub fn term_at(law: &Law, mass: u64, from: Point, to: Point, d2: u64) -> Pull
     let root = root_of(r2, guess.root);
     let divisor = divisor_of(r2, root);
     let scale = u128::from(law.g) * u128::from(mass);
-    let met = 1;
     let rate = guess.rate;
     if is_rate(scale, divisor, rate) && is_sure(rate, x) && is_sure(rate, y) && is_sure(rate, z) {
         return Pull {
             ax: share(rate, x, from.x <= to.x),
             ay: share(rate, y, from.y <= to.y),
             az: share(rate, z, from.z <= to.z),
-            met,
+            met: 1,
         };
     }
     let rate = wide_rate(guess.parts);
@@ -48,14 +83,14 @@ pub fn term_at(law: &Law, mass: u64, from: Point, to: Point, d2: u64) -> Pull
             ax: wide_share(rate, x, from.x <= to.x),
             ay: wide_share(rate, y, from.y <= to.y),
             az: wide_share(rate, z, from.z <= to.z),
-            met,
+            met: 1,
         };
     }
     Pull {
         ax: slow_component(scale, from.x, to.x, divisor),
         ay: slow_component(scale, from.y, to.y, divisor),
         az: slow_component(scale, from.z, to.z, divisor),
-        met,
+        met: 1,
     }
 }
 
@@ -140,6 +175,16 @@ fn root_of(n: u64, guess: u64) -> u64
     }
 }
 
+/// Whether a number has a guess as its root.
+#[inline]
+fn is_root(n: u64, guess: u64) -> bool
+    requires number_fits { n < 2 ^ 45 }
+    requires guess_fits { guess < 2 ^ 21 }
+    ensures { IsTrue result → (guess * guess ≤ n) × (n < (guess + 1) * (guess + 1)) }
+{
+    n.wrapping_sub(guess * guess) <= 2 * guess
+}
+
 #[cold]
 #[inline(never)]
 fn slow_root(n: u64) -> u64
@@ -164,7 +209,43 @@ fn divisor_of(r2: u64, r: u64) -> u128
     u128::from(r2) * u128::from(r)
 }
 
+/// What a term is divided by where its root is short.
+#[inline]
+fn short_divisor(r2: u64, r: u64) -> u64
+    requires positive { 0 < r2 }
+    requires fits { r2 < 2 ^ 42 }
+    requires root_value { r ≡ root r2 }
+    requires root_fits { r < 2 ^ 21 }
+    ensures value { result ≡ r2 * r }
+    ensures positive { 0 < result }
+    ensures fits { result < 2 ^ 63 }
+{
+    r2 * r
+}
+
 // ---- shares of a rate in parts of 2^-32, in words of 64 bits
+
+/// `g * mass` in parts of 2^-32.
+#[inline]
+fn whole_of(g: u64, mass: u64) -> u128
+    requires g_fits { g ≤ 2 ^ 40 }
+    requires mass_fits { mass < 2 ^ 40 }
+    ensures value { result ≡ g * mass * 2 ^ 32 }
+    ensures fits { result < 2 ^ 112 }
+{
+    u128::from(g * 0x100) * u128::from(mass * 0x100_0000)
+}
+
+/// Whether the rate of a whole and a short divisor is so much or less than one part more.
+#[inline]
+fn is_short_rate(whole: u128, divisor: u64, rate: u64) -> bool
+    requires whole_fits { whole < 2 ^ 112 }
+    requires divisor_fits { divisor < 2 ^ 63 }
+    requires rate_fits { rate < 2 ^ 43 }
+    ensures { IsTrue result → (rate * divisor ≤ whole) × (whole < rate * divisor + 1 * divisor) }
+{
+    whole.wrapping_sub(u128::from(rate) * u128::from(divisor)) < u128::from(divisor)
+}
 
 /// Whether the rate of a scale and a divisor, in parts of 2^-32, is so much or less than one part more.
 #[inline]

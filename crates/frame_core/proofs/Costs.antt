@@ -1,5 +1,5 @@
 -- The greatest cost of zones.
-use Rattle.std.proofs.Common.{◌≡◌, ◌<◌, ◌+◌, ℕ, List, [], ◌∷◌, length, map, take, get_or, max, ◌∙◌, ap, arith}
+use Rattle.std.proofs.Common.{◌≡◌, ◌<◌, ◌+◌, ℕ, List, [], ◌∷◌, length, map, take, get_or, max, sym, ◌∙◌, ap, arith}
 use Rattle.std.proofs.lemmas.List.{map_more}
 use Rattle.bh_model.proofs.Trees.{greatest-append}
 use Rattle.bh_model.specs.Trees.{greatest}

@@ -1,5 +1,5 @@
 -- Moments by their parts: of one body, of a cell's children so far, and their sums.
-use Rattle.std.proofs.Common.{◌≡◌, ◌≤◌, ◌<◌, ◌+◌, ◌*◌, ◌/◌, ◌^◌, ℕ, List, refl, ap, ◌∙◌, sym, subst, inl, inr, arith, length}
+use Rattle.std.proofs.Common.{◌≡◌, ◌≤◌, ◌<◌, ◌+◌, ◌*◌, ◌^◌, ℕ, List, refl, ap, ◌∙◌, sym, subst, arith, length}
 use Rattle.std.proofs.lemmas.List.{get_or-map}
 use Rattle.octant_code.specs.Points.{site_at}
 use Rattle.bh_model.proofs.Totals.{child_total, sum_upto, sum_upto-le, sum_upto-more, total-body, total-cell, total-empty}
@@ -9,13 +9,11 @@ use Rattle.bh_model.specs.declared.moment.Moment.{Moment}
 use Rattle.scene_file.specs.Bodies.{body_at, nobody, sites_of}
 use Rattle.scene_file.specs.declared.bodies.Body.{Body as BodyOf}
 use Rattle.mass_moments.specs.Filling.{AreProductsInCube, AreSmall}
-use Rattle.bh_model.specs.Moments.{FitsWords, add_moment, centre_of, moment_of_body, no_moment}
+use Rattle.bh_model.specs.Moments.{FitsWords, add_moment, moment_of_body, no_moment}
 use Rattle.bh_model.specs.Zones.{cost_at}
 use Rattle.octant_code.specs.Space.{IsInCube, Site}
 use Rattle.mass_moments.specs.Kept.{matter_of}
-use Rattle.std.proofs.Math.Nat.{div-zero, mul-le-mul_left}
-use Rattle.std.proofs.lemmas.Bool.{cases_lt}
-use Rattle.std.proofs.lemmas.Nat.{div_below}
+use Rattle.std.proofs.Math.Nat.{mul-le-mul_left}
 
 -- a moment of its parts
 abbrev pub made : ℕ → ℕ → ℕ → ℕ → ℕ → ℕ → Moment
@@ -65,17 +63,6 @@ body_in_cube mass cost at inside = record {
 
 pub sum_in_cube : (a b : Moment) → AreProductsInCube a → AreProductsInCube b → AreProductsInCube (add_moment a b)
 sum_in_cube a b p q = record { x = omega (arith, p.x, q.x); y = omega (arith, p.y, q.y); z = omega (arith, p.z, q.z) }
-
--- a centre of such bodies is in the cube
-quotient_in_cube : (product mass : ℕ) → product ≤ 2097151 * mass → product / mass < 2097152
-quotient_in_cube product mass h =
-    elim (cases_lt 0 mass) [
-      | inl some ↦ div_below product mass 2097152 some (omega arith)
-      | inr none ↦ (let z : mass ≡ 0 = omega arith in omega (arith, ap (λ y. product / y) z, div-zero product))
-    ]
-
-pub centre_in_cube : (a : Moment) → AreProductsInCube a → IsInCube (centre_of a)
-centre_in_cube a p = record { x_fits = quotient_in_cube a.px a.mass p.x; y_fits = quotient_in_cube a.py a.mass p.y; z_fits = quotient_in_cube a.pz a.mass p.z }
 
 -- the sums over the first k of some trees
 abbrev pub moment_upto : Matter → (ℕ → ℕ) → (ℕ → Tree) → ℕ → Moment

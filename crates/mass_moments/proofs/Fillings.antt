@@ -17,10 +17,6 @@ pub record AreFilledUpTo (m : Matter) (cost : ℕ → ℕ) (cell : Spot) (k : �
   pub own : (j d : ℕ) → j < k → IsUnderChild cell j d → moment_at now d ≡ moment m cost (tree_below cell.octree d)
   pub others : (d : ℕ) → ((j : ℕ) → j < k → IsUnderChild cell j d → ⊥) → moment_at now d ≡ moment_at before d
 
--- where no cell is below there is nothing to fill
-pub filled_bare : (m : Matter) (cost : ℕ → ℕ) (s : Spot) (list : List Moment) → ((d : ℕ) → IsCellUnder s d → ⊥) → AreFilled m cost s list list
-filled_bare m cost s list bare = record { own = λ d r. absurd (bare d r); others = λ d h. refl }
-
 -- before the first child
 pub filled_start : (m : Matter) (cost : ℕ → ℕ) (cell : Spot) (list : List Moment) → AreFilledUpTo m cost cell 0 list list no_moment
 filled_start m cost cell list = record {
