@@ -1,5 +1,6 @@
 -- The total of a quantity over the canonical octree is its sum over the bodies of the list.
-use Rattle.std.proofs.Common.{◌≡◌, ◌≤◌, ◌<◌, ◌+◌, ◌*◌, ℕ, zero, suc, List, [], ◌∷◌, inl, inr, refl, ap, ◌∙◌, sym, subst, arith, sum_by, length, get_or, eqb, not, true, false}
+use Rattle.std.proofs.Common.{◌≡◌, ◌≤◌, ◌<◌, ◌+◌, ◌*◌, ℕ, zero, suc, List, [], ◌∷◌, inl, inr, refl, ap, ◌∙◌, sym, subst, arith, sum_by, length, get_or, eqb}
+use Rattle.std.proofs.Common.{not, true, false}
 use Rattle.std.specs.List.{filter}
 use Rattle.std.proofs.lemmas.Bool.{cases_Bool, eqb-true, eqb-false}
 use Rattle.std.proofs.lemmas.List.Sums.{sum_by-cons, sum_by_push}
@@ -45,13 +46,19 @@ sum_of_some q (x ∷ xs) ys once other within =
     omega (arith, sum_by-cons q x xs, sum_with q x ys (within x (inl refl)) other, less)
 
 -- two lists of the same members without repeats have one sum
-pub sum_of_same : (q : ℕ → ℕ) (xs ys : List ℕ) → NoneTwice xs → NoneTwice ys → ((n : ℕ) → IsIn xs n → IsIn ys n) → ((n : ℕ) → IsIn ys n → IsIn xs n) → sum_by q xs ≡ sum_by q ys
+pub sum_of_same : (q : ℕ → ℕ) (xs ys : List ℕ) → NoneTwice xs → NoneTwice ys → ((n : ℕ) → IsIn xs n → IsIn ys n) → ((n : ℕ) → IsIn ys n → IsIn xs n)
+    → sum_by q xs ≡ sum_by q ys
 sum_of_same q xs ys once other there back = omega (arith, sum_of_some q xs ys once other there, sum_of_some q ys xs other once back)
 
 -- the total over the canonical octree is at most the sum over the bodies of the list
 pub octree_total_le : (q : ℕ → ℕ) (site : ℕ → Site) (bodies : List ℕ) → NoneTwice bodies → total q (octree site bodies) ≤ sum_by q bodies
 octree_total_le q site bodies once =
-    omega (arith, total-order q (octree site bodies), sum_of_some q (order (octree site bodies)) bodies (order_has_none_twice site bodies) once (λ n i. from_list site 21 0 bodies n i))
+    omega (
+      arith,
+      total-order q (octree site bodies),
+      sum_of_some q (order (octree site bodies)) bodies (order_has_none_twice site bodies) once
+          (λ n i. from_list site 21 0 bodies n i),
+    )
 
 -- and it is that sum where the points are distinct points of the cube
 pub octree_total : (q : ℕ → ℕ) (site : ℕ → Site) (bodies : List ℕ) → NoneTwice bodies → ArePlaced site bodies → total q (octree site bodies) ≡ sum_by q bodies

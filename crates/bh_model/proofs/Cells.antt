@@ -39,13 +39,15 @@ abbrev pub LieUnder : (ℕ → Site) → ℕ → ℕ → List ℕ → Type 0
 LieUnder site level key bodies = (n : ℕ) → IsIn bodies n → key_of (site n) level ≡ key
 
 -- a member of the list of an octant is one of the whole list, and has that octant
-pub in_octant-member : (site : ℕ → Site) (level k : ℕ) (bodies : List ℕ) (n : ℕ) → IsIn (in_octant site level k bodies) n → IsIn bodies n × (octant_of (site n) level ≡ k)
+pub in_octant-member : (site : ℕ → Site) (level k : ℕ) (bodies : List ℕ) (n : ℕ) → IsIn (in_octant site level k bodies) n
+    → IsIn bodies n × (octant_of (site n) level ≡ k)
 in_octant-member site level k bodies n i =
     let f = filter-member (λ m. eqb (octant_of (site m) level) k) bodies n i in
     (f.0, eqb-true (octant_of (site n) level) k f.1)
 
 -- a body stands in the list of its octant
-pub in_octant-keeps : (site : ℕ → Site) (level : ℕ) (bodies : List ℕ) (n k : ℕ) → IsIn bodies n → octant_of (site n) level ≡ k → IsIn (in_octant site level k bodies) n
+pub in_octant-keeps : (site : ℕ → Site) (level : ℕ) (bodies : List ℕ) (n k : ℕ) → IsIn bodies n → octant_of (site n) level ≡ k
+    → IsIn (in_octant site level k bodies) n
 in_octant-keeps site level bodies n k i e = filter-keeps (λ m. eqb (octant_of (site m) level) k) bodies n i (eq-eqb (octant_of (site n) level) k e)
 
 -- no body stands twice in the list of an octant
@@ -60,7 +62,8 @@ in_octant-placed site level k bodies h = record {
 }
 
 -- the bodies of an octant lie in the child's cube
-pub in_octant-under : (site : ℕ → Site) (level key k : ℕ) (bodies : List ℕ) → LieUnder site level key bodies → LieUnder site (suc level) (8 * key + k) (in_octant site level k bodies)
+pub in_octant-under : (site : ℕ → Site) (level key k : ℕ) (bodies : List ℕ) → LieUnder site level key bodies
+    → LieUnder site (suc level) (8 * key + k) (in_octant site level k bodies)
 in_octant-under site level key k bodies h n i =
     let f = in_octant-member site level k bodies n i in
     key-suc (site n) level ∙ ap (λ y. 8 * y + octant_of (site n) level) (h n f.0) ∙ ap (λ y. 8 * key + y) f.1
@@ -72,7 +75,8 @@ same_above s t (suc level) upper l e =
     elim (cases_lt upper (suc level)) [
       | inl r ↦
           same_above s t level upper (omega arith)
-          (same_parent (key_of s level) (key_of t level) (octant_of s level) (octant_of t level) (octant-small s level) (octant-small t level) (sym (key-suc s level) ∙ e ∙ key-suc t level))
+          (same_parent (key_of s level) (key_of t level) (octant_of s level) (octant_of t level) (octant-small s level) (octant-small t level)
+          (sym (key-suc s level) ∙ e ∙ key-suc t level))
       | inr r ↦ let z : suc level ≡ upper = omega arith in subst (λ (y : ℕ). key_of s y ≡ key_of t y) z e
     ]
 
@@ -93,7 +97,8 @@ pub record HasTwoFrom (site : ℕ → Site) (bodies : List ℕ) (level key : ℕ
 keys-many : (site : ℕ → Site) (below level key n m : ℕ) (rest : List ℕ) → cell_keys_from (octree_from site (suc below) level (n ∷ m ∷ rest)) key
     ≡ key ∷ joined (λ k. cell_keys_from (octree_from site below (suc level) (in_octant site level k (n ∷ m ∷ rest))) (8 * key + k)) 8
 keys-many site below level key n m rest =
-    ap (λ t. cell_keys_from t key) (octree-many site below level n m rest) ∙ keys-cell (λ k. octree_from site below (suc level) (in_octant site level k (n ∷ m ∷ rest))) key
+    ap (λ t. cell_keys_from t key) (octree-many site below level n m rest)
+    ∙ keys-cell (λ k. octree_from site below (suc level) (in_octant site level k (n ∷ m ∷ rest))) key
 
 -- where a cell stands, two bodies lie
 two_where_cell : (site : ℕ → Site) (below level key : ℕ) (bodies : List ℕ) (q : ℕ) → level + below ≡ 21 → NoneTwice bodies → LieUnder site level key bodies
@@ -147,7 +152,8 @@ cell_where_two site below level key (n ∷ []) q sum placed under t =
     elim t.one_in [ inl e ↦ elim t.other_in [ inl f ↦ absurd (t.differ (e ∙ sym f)) | inr f ↦ absurd f ] | inr e ↦ absurd e ]
 cell_where_two site zero level key (n ∷ m ∷ rest) q sum placed under t =
     let last : t.depth ≡ 21 = omega (arith, t.low, t.deep) in
-    let same : key_of (site t.one) 21 ≡ key_of (site t.other) 21 = subst (λ (y : ℕ). key_of (site t.one) y ≡ key_of (site t.other) y) last (sym t.one_key ∙ t.other_key) in
+    let same : key_of (site t.one) 21 ≡ key_of (site t.other) 21 = subst (λ (y : ℕ). key_of (site t.one) y ≡ key_of (site t.other) y) last
+    (sym t.one_key ∙ t.other_key) in
     absurd (t.differ (placed.apart t.one t.other t.one_in t.other_in
     (same_site (site t.one) (site t.other) (placed.in_cube t.one t.one_in) (placed.in_cube t.other t.other_in) same)))
 cell_where_two site (suc below) level key (n ∷ m ∷ rest) q sum placed under t =
@@ -159,7 +165,8 @@ cell_where_two site (suc below) level key (n ∷ m ∷ rest) q sum placed under 
       | inl l ↦
           let next : key_of a (suc level) ≡ key_of b (suc level) = same_above a b t.depth (suc level) (omega arith) (sym t.one_key ∙ t.other_key) in
           let same : octant_of a level ≡ octant_of b level =
-          same_child (key_of a level) (key_of b level) (octant_of a level) (octant_of b level) (octant-small a level) (octant-small b level) (sym (key-suc a level) ∙ next ∙ key-suc b level) in
+          same_child (key_of a level) (key_of b level) (octant_of a level) (octant_of b level) (octant-small a level) (octant-small b level)
+          (sym (key-suc a level) ∙ next ∙ key-suc b level) in
           let k : ℕ = octant_of a level in
           let part : HasTwoFrom site (in_octant site level k bodies) (suc level) q = record {
             depth = t.depth;
@@ -187,7 +194,8 @@ pub under_root : (site : ℕ → Site) (bodies : List ℕ) → LieUnder site 0 1
 under_root site bodies n i = key-zero (site n)
 
 -- the canonical octree has a cell at a key exactly where more bodies of the list lie under the key than a leaf holds
-pub cell_at : (site : ℕ → Site) (bodies : List ℕ) (key : ℕ) → NoneTwice bodies → ArePlaced site bodies → HasCellAt (octree site bodies) key ↔ HasMoreUnder site bodies key
+pub cell_at : (site : ℕ → Site) (bodies : List ℕ) (key : ℕ) → NoneTwice bodies → ArePlaced site bodies
+    → HasCellAt (octree site bodies) key ↔ HasMoreUnder site bodies key
 cell_at site bodies key once placed = (
   (λ i.
       let t = two_where_cell site 21 0 1 bodies key refl once (under_root site bodies) i in

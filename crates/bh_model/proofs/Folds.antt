@@ -1,9 +1,11 @@
 -- The height, the order, the cells and the depth of a tree, gathered child by child.
-use Rattle.std.proofs.Common.{ℕ, ◌+◌, ◌*◌, ◌<◌, ◌≤◌, ◌≡◌, zero, suc, max, refl, sym, ◌∙◌, ap, arith, List, [], ◌∷◌, ◌++◌, length, length-append, add-one, append-nil, append_assoc}
+use Rattle.std.proofs.Common.{ℕ, ◌+◌, ◌*◌, ◌<◌, ◌≤◌, ◌≡◌, zero, suc, max, refl, sym, ◌∙◌, ap, arith, List, [], ◌∷◌, ◌++◌, length, length-append, add-one}
+use Rattle.std.proofs.Common.{append-nil, append_assoc}
 use Rattle.std.proofs.Math.Nat.{max-zero}
 use Rattle.bh_model.proofs.Lists.{joined}
 use Rattle.bh_model.proofs.Totals.{each_of_eight, sum_upto, sum_upto-more, sum_upto-none, sum_upto-le}
-use Rattle.bh_model.proofs.Trees.{greatest-append, keys-body, keys-cell, keys-empty, levels-body, levels-cell, levels-empty, order-body, order-cell, order-empty}
+use Rattle.bh_model.proofs.Trees.{greatest-append, keys-body, keys-cell, keys-empty, levels-body, levels-cell, levels-empty, order-body, order-cell}
+use Rattle.bh_model.proofs.Trees.{order-empty}
 use Rattle.bh_model.specs.Trees.{Tree, Empty, Body, Cell, body_levels_from, cell_count, cell_keys_from, cell_of, greatest, height, order}
 
 -- ---- height
@@ -12,13 +14,25 @@ use Rattle.bh_model.specs.Trees.{Tree, Empty, Body, Cell, body_levels_from, cell
 pub height_falls : (f : ℕ → Tree) (k : ℕ) → k < 8 → height (f k) < height (cell_of f)
 unfolding height
 height_falls f k small =
-    each_of_eight (λ j. height (f j) < height (cell_of f)) (omega arith) (omega arith) (omega arith) (omega arith) (omega arith) (omega arith) (omega arith) (omega arith) k small
+    each_of_eight (λ j. height (f j) < height (cell_of f)) (omega arith) (omega arith) (omega arith) (omega arith) (omega arith) (omega arith) (omega arith)
+    (omega arith) k small
 
 -- a cell is as low as a bound that its children keep
 pub height_within : (f : ℕ → Tree) (most : ℕ) → ((k : ℕ) → k < 8 → height (f k) < most) → height (cell_of f) ≤ most
 unfolding height
 height_within f most each =
-    omega (arith, each 0 (omega arith), each 1 (omega arith), each 2 (omega arith), each 3 (omega arith), each 4 (omega arith), each 5 (omega arith), each 6 (omega arith), each 7 (omega arith))
+    omega (
+      arith,
+      each 0 (omega arith),
+      each 1 (omega arith),
+      each 2 (omega arith),
+      each 3 (omega arith),
+      each 4 (omega arith),
+      each 5 (omega arith),
+      each 6
+          (omega arith),
+      each 7 (omega arith),
+    )
 
 -- nothing and one body are flat
 pub height-empty : height Empty ≡ 0
@@ -80,12 +94,15 @@ pub deepest_next : (f : ℕ → Tree) (child : Tree) (k level now part next : �
 unfolding deepest_upto
 deepest_next f child k level now part next c e p n =
     n ∙ ap (λ y. max y part) e ∙ ap (λ y. max (greatest (joined (λ j. body_levels_from (f j) level) k)) y) (p ∙ ap (λ y. greatest (body_levels_from y level)) c)
-    ∙ sym (ap (λ y. greatest (joined (λ j. body_levels_from (f j) level) y)) (add-one k) ∙ greatest-append (joined (λ j. body_levels_from (f j) level) k) (body_levels_from (f k) level))
+    ∙ sym (ap (λ y. greatest (joined (λ j. body_levels_from (f j) level) y)) (add-one k)
+    ∙ greatest-append (joined (λ j. body_levels_from (f j) level) k) (body_levels_from (f k) level))
 
-pub deepest_all : (f : ℕ → Tree) (t : Tree) (k level now : ℕ) → t ≡ cell_of f → now ≡ deepest_upto f (level + 1) k → k ≡ 8 → now ≡ greatest (body_levels_from t level)
+pub deepest_all : (f : ℕ → Tree) (t : Tree) (k level now : ℕ) → t ≡ cell_of f → now ≡ deepest_upto f (level + 1) k → k ≡ 8
+    → now ≡ greatest (body_levels_from t level)
 unfolding deepest_upto
 deepest_all f t k level now e n all =
-    n ∙ ap (λ y. greatest (joined (λ j. body_levels_from (f j) (level + 1)) y)) all ∙ ap (λ l. greatest (joined (λ j. body_levels_from (f j) l) 8)) (add-one level)
+    n ∙ ap (λ y. greatest (joined (λ j. body_levels_from (f j) (level + 1)) y)) all
+    ∙ ap (λ l. greatest (joined (λ j. body_levels_from (f j) l) 8)) (add-one level)
     ∙ ap greatest (sym (levels-cell f level)) ∙ sym (ap (λ y. greatest (body_levels_from y level)) e)
 
 pub ruleset depth_steps = (deepest_start, deepest_none, deepest_one, deepest_next, deepest_all)
@@ -96,7 +113,15 @@ pub ruleset depth_steps = (deepest_start, deepest_none, deepest_one, deepest_nex
 lengths_upto : (g : ℕ → List ℕ) (h : ℕ → ℕ) (n : ℕ) → ((k : ℕ) → k < n → length (g k) ≡ h k) → length (joined g n) ≡ sum_upto h n
 lengths_upto g h zero same = sym (sum_upto-none h)
 lengths_upto g h (suc n) same =
-    omega (arith, length-append (joined g n) (g n), lengths_upto g h n (λ k l. same k (omega arith)), same n (omega arith), sum_upto-more h n, ap (sum_upto h) (add-one n))
+    omega (
+      arith,
+      length-append (joined g n) (g n),
+      lengths_upto g h n (λ k l. same k (omega arith)),
+      same n (omega arith),
+      sum_upto-more h n,
+      ap (sum_upto h)
+          (add-one n),
+    )
 
 -- two trees of children with as many cells
 lengths_same : (g h : ℕ → List ℕ) (n : ℕ) → ((k : ℕ) → k < n → length (g k) ≡ length (h k)) → length (joined g n) ≡ length (joined h n)
@@ -120,9 +145,11 @@ keys_same (Body n) key other = ap length (keys-body n key ∙ sym (keys-body n o
 keys_same (Cell a b c d e f g h) key other =
     let kid : ℕ → Tree = nth a b c d e f g h in
     let P : ℕ → Type 0 = λ k. (m n : ℕ) → length (cell_keys_from (kid k) m) ≡ length (cell_keys_from (kid k) n) in
-    let each : (k : ℕ) → k < 8 → P k = each_of_eight P (keys_same a) (keys_same b) (keys_same c) (keys_same d) (keys_same e) (keys_same f) (keys_same g) (keys_same h) in
+    let each : (k : ℕ) → k < 8
+    → P k = each_of_eight P (keys_same a) (keys_same b) (keys_same c) (keys_same d) (keys_same e) (keys_same f) (keys_same g) (keys_same h) in
     ap length (keys-cell kid key)
-    ∙ ap suc (lengths_same (λ k. cell_keys_from (kid k) (8 * key + k)) (λ k. cell_keys_from (kid k) (8 * other + k)) 8 (λ k l. each k l (8 * key + k) (8 * other + k)))
+    ∙ ap suc (lengths_same (λ k. cell_keys_from (kid k) (8 * key + k)) (λ k. cell_keys_from (kid k) (8 * other + k)) 8
+    (λ k l. each k l (8 * key + k) (8 * other + k)))
     ∙ ap length (sym (keys-cell kid other))
 
 -- the number of cells of the first k children
@@ -145,7 +172,14 @@ counts_next f child k c = sum_upto-more (λ j. cell_count (f j)) k ∙ ap (λ t.
 
 pub counts_all : (f : ℕ → Tree) (t : Tree) → t ≡ cell_of f → cell_count t ≡ 1 + counts f 8
 unfolding counts
-counts_all f t e = omega (arith, ap cell_count e, ap length (keys-cell f 1), lengths_upto (λ k. cell_keys_from (f k) (8 * 1 + k)) (λ j. cell_count (f j)) 8 (λ k l. keys_same (f k) (8 * 1 + k) 1))
+counts_all f t e =
+    omega (
+      arith,
+      ap cell_count e,
+      ap length (keys-cell f 1),
+      lengths_upto (λ k. cell_keys_from (f k) (8 * 1 + k)) (λ j. cell_count (f j)) 8
+          (λ k l. keys_same (f k) (8 * 1 + k) 1),
+    )
 
 pub counts_few : (f : ℕ → Tree) (k : ℕ) → k < 8 → counts f (k + 1) ≤ counts f 8
 unfolding counts

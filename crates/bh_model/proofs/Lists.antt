@@ -14,7 +14,8 @@ filter-none p (x ∷ xs) h =
     ]
 
 -- a filter that one member alone passes keeps that one
-pub filter-one : (p : ℕ → Bool) (xs : List ℕ) (n : ℕ) → NoneTwice xs → IsIn xs n → p n ≡ true → ((m : ℕ) → IsIn xs m → p m ≡ true → m ≡ n) → filter p xs ≡ n ∷ []
+pub filter-one : (p : ℕ → Bool) (xs : List ℕ) (n : ℕ) → NoneTwice xs → IsIn xs n → p n ≡ true → ((m : ℕ) → IsIn xs m → p m ≡ true → m ≡ n)
+    → filter p xs ≡ n ∷ []
 filter-one p [] n d i e h = absurd i
 filter-one p (x ∷ xs) n d (inl i) e h =
     let f : p x ≡ true = subst (λ (y : ℕ). p y ≡ true) i e in
@@ -52,7 +53,8 @@ two_members (x ∷ []) a b (inl i) (inr j) d = absurd j
 two_members (x ∷ y ∷ r) a b i j d = record { first = x; second = y; rest = r; is = refl }
 
 -- two filters in turn
-pub filter-filter : (p q r : ℕ → Bool) → ((n : ℕ) → q n ≡ true → p n ≡ r n) → ((n : ℕ) → q n ≡ false → r n ≡ false) → (xs : List ℕ) → filter p (filter q xs) ≡ filter r xs
+pub filter-filter : (p q r : ℕ → Bool) → ((n : ℕ) → q n ≡ true → p n ≡ r n) → ((n : ℕ) → q n ≡ false → r n ≡ false) → (xs : List ℕ)
+    → filter p (filter q xs) ≡ filter r xs
 filter-filter p q r passes fails [] = refl
 filter-filter p q r passes fails (x ∷ xs) =
     elim (cases_Bool (q x)) [

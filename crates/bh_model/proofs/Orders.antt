@@ -24,7 +24,8 @@ order_of_deep site level n m rest = ap order (octree-deep site level n m rest) �
 -- the order of the octree of two bodies or more above it
 order_of_many : (site : ℕ → Site) (below level n m : ℕ) (rest : List ℕ) → order (octree_from site (suc below) level (n ∷ m ∷ rest))
     ≡ joined (λ k. order (octree_from site below (suc level) (in_octant site level k (n ∷ m ∷ rest)))) 8
-order_of_many site below level n m rest = ap order (octree-many site below level n m rest) ∙ order-cell (λ k. octree_from site below (suc level) (in_octant site level k (n ∷ m ∷ rest)))
+order_of_many site below level n m rest =
+    ap order (octree-many site below level n m rest) ∙ order-cell (λ k. octree_from site below (suc level) (in_octant site level k (n ∷ m ∷ rest)))
 
 -- a body in the order is one of the list
 pub from_list : (site : ℕ → Site) (below level : ℕ) (bodies : List ℕ) (n : ℕ) → IsIn (order (octree_from site below level bodies)) n → IsIn bodies n
@@ -38,13 +39,15 @@ from_list site (suc below) level (a ∷ b ∷ rest) n i =
     (in_octant-member site level p.part bodies n (from_list site below (suc level) (in_octant site level p.part bodies) n p.inside)).0
 
 -- a body of the list is in the order
-in_order : (site : ℕ → Site) (below level key : ℕ) (bodies : List ℕ) (n : ℕ) → level + below ≡ 21 → NoneTwice bodies → ArePlaced site bodies → LieUnder site level key bodies
+in_order : (site : ℕ → Site) (below level key : ℕ) (bodies : List ℕ) (n : ℕ) → level + below ≡ 21 → NoneTwice bodies → ArePlaced site bodies
+    → LieUnder site level key bodies
     → IsIn bodies n → IsIn (order (octree_from site below level bodies)) n
 in_order site below level key [] n sum once placed under i = absurd i
 in_order site below level key (a ∷ []) n sum once placed under i = subst (λ (y : List ℕ). IsIn y n) (sym (order_of_one site below level a)) i
 in_order site zero level key (a ∷ b ∷ rest) n sum once placed under i =
     let last : level ≡ 21 = omega arith in
-    let same : key_of (site a) 21 ≡ key_of (site b) 21 = subst (λ (y : ℕ). key_of (site a) y ≡ key_of (site b) y) last (under a (inl refl) ∙ sym (under b (inr (inl refl)))) in
+    let same : key_of (site a) 21 ≡ key_of (site b) 21 = subst (λ (y : ℕ). key_of (site a) y ≡ key_of (site b) y) last
+    (under a (inl refl) ∙ sym (under b (inr (inl refl)))) in
     absurd (once.0 (inl (placed.apart a b (inl refl) (inr (inl refl))
     (same_site (site a) (site b) (placed.in_cube a (inl refl)) (placed.in_cube b (inr (inl refl))) same))))
 in_order site (suc below) level key (a ∷ b ∷ rest) n sum once placed under i =

@@ -1,5 +1,6 @@
 -- How large pulls are: sums of terms, and the pull of a tree by its mass and the number of its bodies.
-use Rattle.std.proofs.Common.{◌≡◌, ◌≢◌, ◌≤◌, ◌<◌, ◌+◌, ◌-◌, ◌*◌, ◌^◌, inl, inr, ℕ, ℤ, pos, ◌+ℤ◌, zero, suc, ltb, ◌&&◌, eqb, not, true, false, Bool, refl, ap, ◌∙◌, arith, List, length, slice_index, sum_by, sym}
+use Rattle.std.proofs.Common.{◌≡◌, ◌≢◌, ◌≤◌, ◌<◌, ◌+◌, ◌-◌, ◌*◌, ◌^◌, inl, inr, ℕ, ℤ, pos, ◌+ℤ◌, zero, suc, ltb, ◌&&◌, eqb, not, true, false, Bool, refl, ap}
+use Rattle.std.proofs.Common.{◌∙◌, arith, List, length, slice_index, sum_by, sym}
 use Rattle.std.proofs.Math.Nat.{mul-zero}
 use Rattle.std.proofs.lemmas.Bool.{cases_Bool, cases_lt, false≢true}
 use Rattle.std.proofs.lemmas.Bool.Decides.{eqb_tells, nat_tests}
@@ -65,12 +66,14 @@ pub pull-other : (law : PullLaw) (m : Matter) (n down key j : ℕ) → j ≢ n �
 unfolding pull_from
 pull-other law m n down key j h = let test : eqb j n ≡ false = grind (arith, nat_tests) in rw test
 
-pub pull-whole : (law : PullLaw) (m : Matter) (n down key : ℕ) (a b c d e f g h : Tree) → is_whole law down key (m.site n) (centre m (Cell a b c d e f g h)) ≡ true
+pub pull-whole : (law : PullLaw) (m : Matter) (n down key : ℕ) (a b c d e f g h : Tree)
+    → is_whole law down key (m.site n) (centre m (Cell a b c d e f g h)) ≡ true
     → pull_from law m n down key (Cell a b c d e f g h) ≡ term law (mass_of m (Cell a b c d e f g h)) (m.site n) (centre m (Cell a b c d e f g h))
 unfolding pull_from
 pull-whole law m n down key a b c d e f g h test = rw test
 
-pub pull-opened : (law : PullLaw) (m : Matter) (n down key : ℕ) (a b c d e f g h : Tree) → is_whole law down key (m.site n) (centre m (Cell a b c d e f g h)) ≡ false
+pub pull-opened : (law : PullLaw) (m : Matter) (n down key : ℕ) (a b c d e f g h : Tree)
+    → is_whole law down key (m.site n) (centre m (Cell a b c d e f g h)) ≡ false
     → pull_from law m n down key (Cell a b c d e f g h)
     ≡ sum_of_eight (pull_from law m n (down - 1) (8 * key + 0) a) (pull_from law m n (down - 1) (8 * key + 1) b) (pull_from law m n (down - 1) (8 * key + 2) c)
     (pull_from law m n (down - 1) (8 * key + 3) d) (pull_from law m n (down - 1) (8 * key + 4) e) (pull_from law m n (down - 1) (8 * key + 5) f)
@@ -91,14 +94,16 @@ less_right a t (suc d) h = omega arith
 -- the centre of a cell that is taken whole is apart from the body
 pub whole_apart : (law : PullLaw) (down key : ℕ) (from to : Site) → is_whole law down key from to ≡ true → 0 < squared_distance from to
 unfolding is_whole
-whole_apart law down key from to h = less_right _ (law.theta_num * law.theta_num) _ (and_right (not (eqb (key_of from (21 - down)) key)) (is_far law down from to) h)
+whole_apart law down key from to h =
+    less_right _ (law.theta_num * law.theta_num) _ (and_right (not (eqb (key_of from (21 - down)) key)) (is_far law down from to) h)
 
 -- the other bodies stand apart from a body
 pub record StandsApart (m : Matter) (most n : ℕ) : Type 0 where
   pub apart : (j : ℕ) → j < most → j ≢ n → 0 < squared_distance (m.site n) (m.site j)
 
 -- the pull of a tree is within g times its mass, and has at most as many terms as it has other bodies
-pub pull_small : (law : PullLaw) (m : Matter) (most n : ℕ) → StandsApart m most n → (down key : ℕ) (tree : Tree) → Stands most down tree → total (is_own n) tree ≤ 1
+pub pull_small : (law : PullLaw) (m : Matter) (most n : ℕ) → StandsApart m most n → (down key : ℕ) (tree : Tree) → Stands most down tree
+    → total (is_own n) tree ≤ 1
     → IsSmall (law.g * mass_of m tree) (total (is_other n) tree) (pull_from law m n down key tree)
 unfolding pull_from total Stands
 pull_small law m most n apart down key Empty stands once = small_none _ _

@@ -32,7 +32,8 @@ octree_same site below level (x ∷ z ∷ xs) (y ∷ []) p q same =
 octree_same site zero level (a ∷ b ∷ r) (c ∷ d ∷ s) p q same = empty_both site level a b c d r s
 octree_same site (suc below) level (a ∷ b ∷ r) (c ∷ d ∷ s) p q same =
     octree-many site below level a b r
-    ∙ cell_of-same (λ k. octree_from site below (suc level) (in_octant site level k (a ∷ b ∷ r))) (λ k. octree_from site below (suc level) (in_octant site level k (c ∷ d ∷ s)))
+    ∙ cell_of-same (λ k. octree_from site below (suc level) (in_octant site level k (a ∷ b ∷ r)))
+    (λ k. octree_from site below (suc level) (in_octant site level k (c ∷ d ∷ s)))
     (λ k l.
     let t : ℕ → Bool = λ n. eqb (octant_of (site n) level) k in
     octree_same site below (suc level) (in_octant site level k (a ∷ b ∷ r)) (in_octant site level k (c ∷ d ∷ s))

@@ -1,15 +1,18 @@
 -- What the plain program's lists say of the octree of a list.
-use Rattle.std.proofs.Common.{Bool, true, false, ℕ, ◌+◌, ◌-◌, ◌<◌, ◌≡◌, ◌≢◌, ◌⊎◌, suc, refl, sym, ◌∙◌, ap, subst, inl, inr, arith, add-one, append_assoc, List, [], ◌∷◌, ◌++◌, length, get_or, eqb, decimal, All, Result, Ok, Err, OnOk}
+use Rattle.std.proofs.Common.{Bool, true, false, ℕ, ◌+◌, ◌-◌, ◌<◌, ◌≡◌, ◌≢◌, ◌⊎◌, suc, refl, sym, ◌∙◌, ap, subst, inl, inr, arith, add-one, append_assoc}
+use Rattle.std.proofs.Common.{List, [], ◌∷◌, ◌++◌, length, get_or, eqb, decimal, All, Result, Ok, Err, OnOk}
 use Rattle.std.proofs.lemmas.Bool.{eqb-true, eqb-false}
 use Rattle.std.proofs.lemmas.List.Elements.{All-filter}
 use Rattle.octant_code.specs.Points.{site_at}
 use Rattle.octant_code.specs.Space.{Site, octant_of}
 use Rattle.bh_model.specs.Trees.{Tree, Empty, Body, cell_of, in_octant, octree_from, order, text}
 use Rattle.bh_model.proofs.Lists.{joined}
-use Rattle.bh_model.proofs.Trees.{octree-none, octree-one, octree-deep, octree-many, cell_of-same, order-empty, order-body, order-cell, text-empty, text-body, text-cell}
+use Rattle.bh_model.proofs.Trees.{octree-none, octree-one, octree-deep, octree-many, cell_of-same, order-empty, order-body, order-cell, text-empty, text-body}
+use Rattle.bh_model.proofs.Trees.{text-cell}
 
 -- the bodies of an octant are below a number where those of the list are
-pub octants_within : (sites : List Site) (level k : ℕ) (bodies part : List ℕ) (most : ℕ) → part ≡ in_octant (site_at sites) level k bodies → All (λ n. n < most) bodies → All (λ n. n < most) part
+pub octants_within : (sites : List Site) (level k : ℕ) (bodies part : List ℕ) (most : ℕ) → part ≡ in_octant (site_at sites) level k bodies
+    → All (λ n. n < most) bodies → All (λ n. n < most) part
 octants_within sites level k bodies part most e h =
     subst (λ (y : List ℕ). All (λ n. n < most) y) (sym e) (All-filter (λ n. eqb (octant_of (site_at sites n) level) k) (λ n. n < most) bodies h)
 
@@ -45,7 +48,8 @@ split_tree site level (n ∷ m ∷ rest) l some many =
     (λ k small. ap (λ y. octree_from site (21 - (level + 1)) y (in_octant site level k bodies)) (sym (add-one level)))
 
 -- the octree of no body, and of more than one at the deepest level
-pub empty_tree : (site : ℕ → Site) (level : ℕ) (bodies : List ℕ) → length bodies ≢ 1 → (length bodies ≡ 0) ⊎ (level ≡ 21) → octree_from site (21 - level) level bodies ≡ Empty
+pub empty_tree : (site : ℕ → Site) (level : ℕ) (bodies : List ℕ) → length bodies ≢ 1 → (length bodies ≡ 0) ⊎ (level ≡ 21)
+    → octree_from site (21 - level) level bodies ≡ Empty
 empty_tree site level [] many h = octree-none site (21 - level) level
 empty_tree site level (n ∷ []) many h = absurd (many refl)
 empty_tree site level (n ∷ m ∷ rest) many (inl e) = absurd (omega arith)
@@ -72,7 +76,8 @@ pub order_of_empty : (site : ℕ → Site) (level : ℕ) (bodies : List ℕ) →
 order_of_empty site level bodies many h = ap order (empty_tree site level bodies many h) ∙ order-empty
 
 -- the order of one body
-pub order_of_single : (site : ℕ → Site) (below level : ℕ) (bodies : List ℕ) → length bodies ≡ 1 → order (octree_from site below level bodies) ≡ get_or bodies 0 0 ∷ []
+pub order_of_single : (site : ℕ → Site) (below level : ℕ) (bodies : List ℕ) → length bodies ≡ 1
+    → order (octree_from site below level bodies) ≡ get_or bodies 0 0 ∷ []
 order_of_single site below level bodies l = ap order (one_tree site below level bodies l) ∙ order-body (get_or bodies 0 0)
 
 -- the texts of the octants of a list at a level
@@ -90,7 +95,8 @@ pub text_of_empty : (site : ℕ → Site) (level : ℕ) (bodies : List ℕ) → 
 text_of_empty site level bodies many h = ap text (empty_tree site level bodies many h) ∙ text-empty
 
 -- the text of one body
-pub text_of_single : (site : ℕ → Site) (below level : ℕ) (bodies : List ℕ) → length bodies ≡ 1 → text (octree_from site below level bodies) ≡ 98 ∷ decimal (get_or bodies 0 0)
+pub text_of_single : (site : ℕ → Site) (below level : ℕ) (bodies : List ℕ) → length bodies ≡ 1
+    → text (octree_from site below level bodies) ≡ 98 ∷ decimal (get_or bodies 0 0)
 text_of_single site below level bodies l = ap text (one_tree site below level bodies l) ∙ text-body (get_or bodies 0 0)
 
 -- one more list is joined
@@ -98,8 +104,10 @@ pub joins_more : (before now next : List ℕ) (g : ℕ → List ℕ) (k : ℕ) �
 joins_more before now next g k m e = e ∙ ap (λ y. y ++ g k) m ∙ append_assoc before (joined g k) (g k) ∙ ap (λ y. before ++ joined g y) (sym (add-one k))
 
 -- one more list is joined after the opening bracket
-pub joins_more_text : (before now next : List ℕ) (g : ℕ → List ℕ) (k : ℕ) → now ≡ before ++ (40 ∷ joined g k) → next ≡ now ++ g k → next ≡ before ++ (40 ∷ joined g (k + 1))
-joins_more_text before now next g k m e = e ∙ ap (λ y. y ++ g k) m ∙ append_assoc before (40 ∷ joined g k) (g k) ∙ ap (λ y. before ++ (40 ∷ joined g y)) (sym (add-one k))
+pub joins_more_text : (before now next : List ℕ) (g : ℕ → List ℕ) (k : ℕ) → now ≡ before ++ (40 ∷ joined g k) → next ≡ now ++ g k
+    → next ≡ before ++ (40 ∷ joined g (k + 1))
+joins_more_text before now next g k m e =
+    e ∙ ap (λ y. y ++ g k) m ∙ append_assoc before (40 ∷ joined g k) (g k) ∙ ap (λ y. before ++ (40 ∷ joined g y)) (sym (add-one k))
 
 -- two pieces that are appended in turn
 pub appends_two : (before middle after a b whole : List ℕ) → middle ≡ before ++ a → after ≡ middle ++ b → whole ≡ a ++ b → after ≡ before ++ whole

@@ -1,5 +1,6 @@
 -- How the cells of the canonical octree of all points stand, and the totals of its parts.
-use Rattle.std.proofs.Common.{ℕ, ◌+◌, ◌-◌, ◌*◌, ◌<◌, ◌≤◌, ◌≡◌, zero, suc, refl, sym, ◌∙◌, ap, subst, inl, inr, arith, List, [], ◌∷◌, length, get_or, Bool, true, false, cond, eqb, ltb, All, sum_by}
+use Rattle.std.proofs.Common.{ℕ, ◌+◌, ◌-◌, ◌*◌, ◌<◌, ◌≤◌, ◌≡◌, zero, suc, refl, sym, ◌∙◌, ap, subst, inl, inr, arith, List, [], ◌∷◌, length, get_or, Bool}
+use Rattle.std.proofs.Common.{true, false, cond, eqb, ltb, All, sum_by}
 use Rattle.std.specs.List.{filter}
 use Rattle.std.proofs.lemmas.Bool.Decides.{nat_tests}
 use Rattle.std.proofs.lemmas.Bool.{cases_lt, lt-ltb}
@@ -60,15 +61,18 @@ deepest_alone : (site : ℕ → Site) (level key a b : ℕ) (rest : List ℕ) �
     → LieUnder site level key (a ∷ b ∷ rest) → ⊥
 deepest_alone site level key a b rest sum once placed under =
     let last : level ≡ 21 = omega arith in
-    let same : key_of (site a) 21 ≡ key_of (site b) 21 = subst (λ (y : ℕ). key_of (site a) y ≡ key_of (site b) y) last (under a (inl refl) ∙ sym (under b (inr (inl refl)))) in
+    let same : key_of (site a) 21 ≡ key_of (site b) 21 = subst (λ (y : ℕ). key_of (site a) y ≡ key_of (site b) y) last
+    (under a (inl refl) ∙ sym (under b (inr (inl refl)))) in
     once.0 (inl (placed.apart a b (inl refl) (inr (inl refl))
     (same_site (site a) (site b) (placed.in_cube a (inl refl)) (placed.in_cube b (inr (inl refl))) same)))
 
 -- the total over the octree of the bodies of a cube is the sum over the bodies
-pub total_of_list : (q : ℕ → ℕ) (site : ℕ → Site) (below level key : ℕ) (bodies : List ℕ) → level + below ≡ 21 → NoneTwice bodies → ArePlaced site bodies → LieUnder site level key bodies
+pub total_of_list : (q : ℕ → ℕ) (site : ℕ → Site) (below level key : ℕ) (bodies : List ℕ) → level + below ≡ 21 → NoneTwice bodies → ArePlaced site bodies
+    → LieUnder site level key bodies
     → total q (octree_from site below level bodies) ≡ sum_by q bodies
 total_of_list q site below level key [] sum once placed under = ap (total q) (octree-none site below level) ∙ total-empty q
-total_of_list q site below level key (n ∷ []) sum once placed under = ap (total q) (octree-one site below level n) ∙ total-body q n ∙ omega (arith, sum_by-cons q n [])
+total_of_list q site below level key (n ∷ []) sum once placed under =
+    ap (total q) (octree-one site below level n) ∙ total-body q n ∙ omega (arith, sum_by-cons q n [])
 total_of_list q site zero level key (n ∷ m ∷ rest) sum once placed under = absurd (deepest_alone site level key n m rest sum once placed under)
 total_of_list q site (suc below) level key (n ∷ m ∷ rest) sum once placed under =
     let bodies : List ℕ = n ∷ m ∷ rest in
@@ -187,19 +191,33 @@ stands_one : (most down n : ℕ) → n < most → Stands most down (Body n)
 unfolding Stands
 stands_one most down n h = h
 
-stands_cell : (most below : ℕ) (child : ℕ → Tree) → 2 ≤ total (λ n. 1) (cell_of child) → ((k : ℕ) → k < 8 → Stands most below (child k)) → Stands most (suc below) (cell_of child)
+stands_cell : (most below : ℕ) (child : ℕ → Tree) → 2 ≤ total (λ n. 1) (cell_of child) → ((k : ℕ) → k < 8 → Stands most below (child k))
+    → Stands most (suc below) (cell_of child)
 unfolding Stands
 stands_cell most below child two each =
     let one : below ≡ suc below - 1 = omega arith in
-    let P : ℕ → Type 0 = λ down. (1 ≤ suc below) × (2 ≤ total (λ n. 1) (cell_of child)) × Stands most down (child 0) × Stands most down (child 1) × Stands most down (child 2)
+    let P : ℕ → Type 0 = λ down. (1 ≤ suc below) × (2 ≤ total (λ n. 1) (cell_of child)) × Stands most down (child 0) × Stands most down (child 1)
+    × Stands most down (child 2)
     × Stands most down (child 3) × Stands most down (child 4) × Stands most down (child 5) × Stands most down (child 6) × Stands most down (child 7) in
-    subst P one
-    (omega arith, two, each 0 (omega arith), each 1 (omega arith), each 2 (omega arith), each 3 (omega arith), each 4 (omega arith), each 5 (omega arith), each 6 (omega arith), each 7 (omega arith))
+    subst P one (
+      omega arith,
+      two,
+      each 0 (omega arith),
+      each 1 (omega arith),
+      each 2 (omega arith),
+      each 3 (omega arith),
+      each 4 (omega arith),
+      each 5 (omega arith),
+      each 6 (omega arith),
+      each 7 (omega arith),
+    )
 
 -- the octree of the bodies of a cube stands
-pub stands_of_list : (most : ℕ) (site : ℕ → Site) (below level key : ℕ) (bodies : List ℕ) → level + below ≡ 21 → NoneTwice bodies → ArePlaced site bodies → LieUnder site level key bodies
+pub stands_of_list : (most : ℕ) (site : ℕ → Site) (below level key : ℕ) (bodies : List ℕ) → level + below ≡ 21 → NoneTwice bodies → ArePlaced site bodies
+    → LieUnder site level key bodies
     → ((n : ℕ) → IsIn bodies n → n < most) → Stands most below (octree_from site below level bodies)
-stands_of_list most site below level key [] sum once placed under within = subst (Stands most below) (sym (octree-none site below level)) (stands_none most below)
+stands_of_list most site below level key [] sum once placed under within =
+    subst (Stands most below) (sym (octree-none site below level)) (stands_none most below)
 stands_of_list most site below level key (n ∷ []) sum once placed under within =
     subst (Stands most below) (sym (octree-one site below level n)) (stands_one most below n (within n (inl refl)))
 stands_of_list most site zero level key (n ∷ m ∷ rest) sum once placed under within = absurd (deepest_alone site level key n m rest sum once placed under)
@@ -207,12 +225,15 @@ stands_of_list most site (suc below) level key (n ∷ m ∷ rest) sum once place
     let bodies : List ℕ = n ∷ m ∷ rest in
     let child : ℕ → Tree = λ k. octree_from site below (suc level) (in_octant site level k bodies) in
     let split = octree-many site below level n m rest in
-    let count : total (λ n. 1) (octree_from site (suc below) level bodies) ≡ sum_by (λ n. 1) bodies = total_of_list (λ n. 1) site (suc below) level key bodies sum once placed under in
-    let two : 2 ≤ total (λ n. 1) (cell_of child) = omega (arith, ap (total (λ n. 1)) split, count, sum_by-cons (λ n. 1) n (m ∷ rest), sum_by-cons (λ n. 1) m rest) in
+    let count : total (λ n. 1) (octree_from site (suc below) level bodies) ≡ sum_by (λ n. 1) bodies = total_of_list (λ n. 1) site (suc below) level key bodies
+    sum once placed under in
+    let two : 2 ≤ total (λ n. 1) (cell_of child) = omega
+    (arith, ap (total (λ n. 1)) split, count, sum_by-cons (λ n. 1) n (m ∷ rest), sum_by-cons (λ n. 1) m rest) in
     subst (Stands most (suc below)) (sym split)
     (stands_cell most below child two
     (λ k small. stands_of_list most site below (suc level) (8 * key + k) (in_octant site level k bodies) (omega arith) (in_octant-once site level k bodies once)
-    (in_octant-placed site level k bodies placed) (in_octant-under site level key k bodies under) (λ a i. within a (in_octant-member site level k bodies a i).0)))
+    (in_octant-placed site level k bodies placed) (in_octant-under site level key k bodies under)
+    (λ a i. within a (in_octant-member site level k bodies a i).0)))
 
 -- the octree of all points stands
 pub stands_of_all : (sites : List Site) → ArePoints sites → Stands (length sites) 21 (octree (site_at sites) (numbers (length sites)))

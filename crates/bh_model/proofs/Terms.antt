@@ -1,5 +1,6 @@
 -- Terms of pulls: the coordinates by their signs, how large they are, and a term from its parts.
-use Rattle.std.proofs.Common.{◌≡◌, ℕ, zero, suc, ◌+◌, ◌-◌, ◌*◌, ◌/◌, ◌^◌, ◌<◌, ◌≤◌, inl, inr, refl, ap, ◌∙◌, sym, subst, add-one, arith, pos, ℤ, ◌*ℤ◌, ◌-ℤ◌, neg_ℤ}
+use Rattle.std.proofs.Common.{◌≡◌, ℕ, zero, suc, ◌+◌, ◌-◌, ◌*◌, ◌/◌, ◌^◌, ◌<◌, ◌≤◌, inl, inr, refl, ap, ◌∙◌, sym, subst, add-one, arith, pos, ℤ, ◌*ℤ◌, ◌-ℤ◌}
+use Rattle.std.proofs.Common.{neg_ℤ}
 use Rattle.std.specs.Int.{w128, abs_diff}
 use mir.Val.{to_z, of_z}
 use lib.Signed.{mag}
@@ -91,13 +92,15 @@ abbrev pub one_pull : ℤ → ℤ → ℤ → Pull
 one_pull x y z = record { ax = x; ay = y; az = z; met = 1 }
 
 -- a term from its three coordinates
-pub term-from : (law : PullLaw) (mass : ℕ) (from to : Site) (scale r2 r : ℕ) (x y z : ℤ) → scale ≡ law.g * mass → r2 ≡ squared_distance from to + law.eps2 → r ≡ root r2
+pub term-from : (law : PullLaw) (mass : ℕ) (from to : Site) (scale r2 r : ℕ) (x y z : ℤ) → scale ≡ law.g * mass → r2 ≡ squared_distance from to + law.eps2
+    → r ≡ root r2
     → x ≡ component scale from.x to.x (r2 * r) → y ≡ component scale from.y to.y (r2 * r) → z ≡ component scale from.z to.z (r2 * r)
     → one_pull x y z ≡ term law mass from to
 unfolding term
 term-from law mass from to scale r2 r x y z g e f p q s =
     let root_is : r ≡ root (squared_distance from to + law.eps2) = f ∙ ap root e in
-    let divisors : r2 * r ≡ (squared_distance from to + law.eps2) * root (squared_distance from to + law.eps2) = ap (λ k. k * r) e ∙ ap (λ k. (squared_distance from to + law.eps2) * k) root_is in
+    let divisors : r2 * r ≡ (squared_distance from to + law.eps2) * root (squared_distance from to + law.eps2) = ap (λ k. k * r) e
+    ∙ ap (λ k. (squared_distance from to + law.eps2) * k) root_is in
     let whole : ℕ → ℕ → ℤ = λ a b. component scale a b (r2 * r) in
     ap (λ k. one_pull k y z) p ∙ ap (λ k. one_pull (whole from.x to.x) k z) q ∙ ap (λ k. one_pull (whole from.x to.x) (whole from.y to.y) k) s
     ∙ ap (λ d. one_pull (component scale from.x to.x d) (component scale from.y to.y d) (component scale from.z to.z d)) divisors

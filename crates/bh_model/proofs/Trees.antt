@@ -35,7 +35,17 @@ octree-two site below level bodies two =
 -- equal children make equal cells
 pub cell_of-same : (f g : ℕ → Tree) → ((k : ℕ) → k < 8 → f k ≡ g k) → cell_of f ≡ cell_of g
 cell_of-same f g h =
-    rw (h 0 (omega arith), h 1 (omega arith), h 2 (omega arith), h 3 (omega arith), h 4 (omega arith), h 5 (omega arith), h 6 (omega arith), h 7 (omega arith)) refl
+    rw (
+      h 0 (omega arith),
+      h 1 (omega arith),
+      h 2 (omega arith),
+      h 3 (omega arith),
+      h 4 (omega arith),
+      h 5 (omega arith),
+      h 6 (omega arith),
+      h 7
+          (omega arith),
+    ) refl
 
 -- the order of an empty tree
 pub order-empty : order Empty ≡ []

@@ -36,10 +36,12 @@ zone_from-member cost workers whole before [] w n i = subst (λ (y : List ℕ). 
 zone_from-member cost workers whole before (x ∷ xs) w n i =
     elim (eqb_tells (before * workers / whole) w) [
       | inl same ↦
-          let j : (n ≡ x) ⊎ IsIn (zone_from cost workers whole (before + cost x) xs w) n = subst (λ (y : List ℕ). IsIn y n) (zone_from-own cost workers whole before x xs w same.1) i in
+          let j : (n ≡ x) ⊎ IsIn (zone_from cost workers whole (before + cost x) xs w) n = subst (λ (y : List ℕ). IsIn y n)
+          (zone_from-own cost workers whole before x xs w same.1) i in
           elim j [ inl e ↦ inl e | inr k ↦ inr (zone_from-member cost workers whole (before + cost x) xs w n k) ]
       | inr other ↦
-          inr (zone_from-member cost workers whole (before + cost x) xs w n (subst (λ (y : List ℕ). IsIn y n) (zone_from-other cost workers whole before x xs w other.1) i))
+          inr (zone_from-member cost workers whole (before + cost x) xs w n
+          (subst (λ (y : List ℕ). IsIn y n) (zone_from-other cost workers whole before x xs w other.1) i))
     ]
 
 -- no zone costs more than all bodies
@@ -72,13 +74,15 @@ share_first cost workers whole before x xs n once e = record {
   only = λ w i. elim (eqb_tells (before * workers / whole) w) [
     | inl same ↦ sym same.1
     | inr other ↦
-        let j = zone_from-member cost workers whole (before + cost x) xs w n (subst (λ (y : List ℕ). IsIn y n) (zone_from-other cost workers whole before x xs w other.1) i) in
+        let j = zone_from-member cost workers whole (before + cost x) xs w n
+        (subst (λ (y : List ℕ). IsIn y n) (zone_from-other cost workers whole before x xs w other.1) i) in
         absurd (once (subst (λ (y : ℕ). IsIn xs y) e j))
   ];
 }
 
 -- a body behind the first
-share_later : (cost : ℕ → ℕ) (workers whole before x : ℕ) (xs : List ℕ) (n : ℕ) → (IsIn xs x → ⊥) → IsIn xs n → HasShare cost workers whole (before + cost x) xs n
+share_later : (cost : ℕ → ℕ) (workers whole before x : ℕ) (xs : List ℕ) (n : ℕ) → (IsIn xs x → ⊥) → IsIn xs n
+    → HasShare cost workers whole (before + cost x) xs n
     → HasShare cost workers whole before (x ∷ xs) n
 share_later cost workers whole before x xs n once member s = record {
   at = s.at;
@@ -90,7 +94,8 @@ share_later cost workers whole before x xs n once member s = record {
       ];
   only = λ w i. elim (eqb_tells (before * workers / whole) w) [
     | inl same ↦
-        let j : (n ≡ x) ⊎ IsIn (zone_from cost workers whole (before + cost x) xs w) n = subst (λ (y : List ℕ). IsIn y n) (zone_from-own cost workers whole before x xs w same.1) i in
+        let j : (n ≡ x) ⊎ IsIn (zone_from cost workers whole (before + cost x) xs w) n = subst (λ (y : List ℕ). IsIn y n)
+        (zone_from-own cost workers whole before x xs w same.1) i in
         elim j [ inl e ↦ absurd (once (subst (λ (y : ℕ). IsIn xs y) e member)) | inr k ↦ s.only w k ]
     | inr other ↦ s.only w (subst (λ (y : List ℕ). IsIn y n) (zone_from-other cost workers whole before x xs w other.1) i)
   ];
@@ -100,7 +105,8 @@ share_later cost workers whole before x xs n once member s = record {
 share : (cost : ℕ → ℕ) (workers whole before : ℕ) (xs : List ℕ) (n : ℕ) → NoneTwice xs → IsIn xs n → HasShare cost workers whole before xs n
 share cost workers whole before [] n once i = absurd i
 share cost workers whole before (x ∷ xs) n once (inl e) = share_first cost workers whole before x xs n once.0 e
-share cost workers whole before (x ∷ xs) n once (inr i) = share_later cost workers whole before x xs n once.0 i (share cost workers whole (before + cost x) xs n once.1 i)
+share cost workers whole before (x ∷ xs) n once (inr i) =
+    share_later cost workers whole before x xs n once.0 i (share cost workers whole (before + cost x) xs n once.1 i)
 
 -- a share that begins before the whole cost is a worker's
 share_small : (at workers whole : ℕ) → 1 ≤ workers → at < whole → at * workers / whole < workers
@@ -109,7 +115,8 @@ share_small at workers whole some less =
     div_below (at * workers) whole workers (omega arith) (omega (arith, mul-lt-mul_of_pos_right {m = at} {n = whole} {k = workers} less positive))
 
 -- each body that costs something is in exactly one zone
-pub one_zone : (cost : ℕ → ℕ) (workers : ℕ) (tree : Tree) (n : ℕ) → NoneTwice (order tree) → IsIn (order tree) n → 1 ≤ cost n → 1 ≤ workers → IsInOneZone cost workers tree n
+pub one_zone : (cost : ℕ → ℕ) (workers : ℕ) (tree : Tree) (n : ℕ) → NoneTwice (order tree) → IsIn (order tree) n → 1 ≤ cost n → 1 ≤ workers
+    → IsInOneZone cost workers tree n
 one_zone cost workers tree n once member positive some =
     let s = share cost workers (cost_of cost (order tree)) 0 (order tree) n once member in
     record {

@@ -8,5 +8,6 @@ unfoldable pub Stands : ℕ → ℕ → Tree → Type 0
 Stands most down Empty = Unit {0}
 Stands most down (Body n) = n < most
 Stands most down (Cell a b c d e f g h) =
-    (1 ≤ down) × (2 ≤ total (λ n. 1) (Cell a b c d e f g h)) × Stands most (down - 1) a × Stands most (down - 1) b × Stands most (down - 1) c × Stands most (down - 1) d
+    (1 ≤ down) × (2 ≤ total (λ n. 1) (Cell a b c d e f g h)) × Stands most (down - 1) a × Stands most (down - 1) b × Stands most (down - 1) c
+    × Stands most (down - 1) d
     × Stands most (down - 1) e × Stands most (down - 1) f × Stands most (down - 1) g × Stands most (down - 1) h

@@ -68,7 +68,8 @@ greatest (n ∷ rest) = max n (greatest rest)
 unfoldable pub height : Tree → ℕ
 height Empty = 0
 height (Body n) = 0
-height (Cell a b c d e f g h) = 1 + max (height a) (max (height b) (max (height c) (max (height d) (max (height e) (max (height f) (max (height g) (height h)))))))
+height (Cell a b c d e f g h) =
+    1 + max (height a) (max (height b) (max (height c) (max (height d) (max (height e) (max (height f) (max (height g) (height h)))))))
 
 -- the depth of a tree: the greatest level of a word that names a body, counted from the tree's own word
 abbrev pub depth : Tree → ℕ

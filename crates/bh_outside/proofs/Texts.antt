@@ -67,11 +67,14 @@ puts_broken a b text (Err e) stopped h = (h.done, h.rest, h.splits, h.took)
 pub next_piece : (whole done waits rest piece left : List ℕ) (n : ℕ) → whole ≡ done ++ (waits ++ rest) → piece ≡ waits ++ take n rest → left ≡ []
     → whole ≡ (done ++ piece) ++ (left ++ take (length rest - n) (drop n rest))
 next_piece whole done waits rest piece left n e full none =
-    rw (none, full) (piece_off whole (done ++ waits) rest n (e ∙ sym (append_assoc done waits rest)) ∙ ap (λ z. z ++ take (length rest - n) (drop n rest)) (append_assoc done waits (take n rest)))
+    rw (none, full) (piece_off whole (done ++ waits) rest n (e ∙ sym (append_assoc done waits rest))
+    ∙ ap (λ z. z ++ take (length rest - n) (drop n rest)) (append_assoc done waits (take n rest)))
 
 -- a front of a full piece is one of the whole text
-pub front_of_piece : (whole done waits rest piece front back : List ℕ) (n : ℕ) → whole ≡ done ++ (waits ++ rest) → piece ≡ waits ++ take n rest → piece ≡ front ++ back
+pub front_of_piece : (whole done waits rest piece front back : List ℕ) (n : ℕ) → whole ≡ done ++ (waits ++ rest) → piece ≡ waits ++ take n rest
+    → piece ≡ front ++ back
     → whole ≡ (done ++ front) ++ (back ++ take (length rest - n) (drop n rest))
 front_of_piece whole done waits rest piece front back n e full split =
     let later = take (length rest - n) (drop n rest) in
-    next_piece whole done waits rest piece [] n e full refl ∙ ap (λ z. (done ++ z) ++ later) split ∙ ap (λ z. z ++ later) (sym (append_assoc done front back)) ∙ append_assoc (done ++ front) back later
+    next_piece whole done waits rest piece [] n e full refl ∙ ap (λ z. (done ++ z) ++ later) split ∙ ap (λ z. z ++ later) (sym (append_assoc done front back))
+    ∙ append_assoc (done ++ front) back later

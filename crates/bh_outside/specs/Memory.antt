@@ -9,7 +9,8 @@ pub record Giving : Type 0 where
   pub calls : ℕ
   pub faults : ℕ
 
--- A sink over memory: the bytes that it keeps, its room, how many a call takes at most, the numbers of the calls that fail, and how many calls and faults there were.
+-- A sink over memory: the bytes that it keeps, its room, how many a call takes at most, the numbers of the calls that fail, and how many calls and faults
+-- there were.
 pub record Taking : Type 0 where
   pub kept : List ℕ
   pub room : ℕ

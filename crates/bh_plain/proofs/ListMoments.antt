@@ -1,5 +1,6 @@
 -- What the plain program's steps say of a moment.
-use Rattle.std.proofs.Common.{◌≡◌, ◌≢◌, ◌≤◌, ◌<◌, ◌+◌, ◌-◌, ◌*◌, ◌^◌, ◌⊎◌, ℕ, zero, suc, List, [], ◌∷◌, All, length, get_or, refl, sym, ap, ◌∙◌, inl, inr, arith, sum_by}
+use Rattle.std.proofs.Common.{◌≡◌, ◌≢◌, ◌≤◌, ◌<◌, ◌+◌, ◌-◌, ◌*◌, ◌^◌, ◌⊎◌, ℕ, zero, suc, List, [], ◌∷◌, All, length, get_or, refl, sym, ap, ◌∙◌, inl, inr}
+use Rattle.std.proofs.Common.{arith, sum_by}
 use Rattle.std.proofs.lemmas.List.Sums.{sum_by-cons}
 use Rattle.std.proofs.Math.Nat.{mul-le-mul_left}
 use Rattle.octant_code.specs.Points.{ArePoints, site_at}
@@ -82,19 +83,22 @@ moment_of_empty m cost level bodies many h = ap (moment m cost) (empty_tree m.si
 
 -- the moment of one body
 pub moment_of_single : (m : Matter) (cost : ℕ → ℕ) (below level : ℕ) (bodies : List ℕ) → length bodies ≡ 1
-    → moment m cost (octree_from m.site below level bodies) ≡ moment_of_body (m.mass (get_or bodies 0 0)) (m.site (get_or bodies 0 0)) (cost (get_or bodies 0 0))
+    → moment m cost (octree_from m.site below level bodies) ≡ moment_of_body (m.mass (get_or bodies 0 0)) (m.site (get_or bodies 0 0))
+    (cost (get_or bodies 0 0))
 unfolding total
 moment_of_single m cost below level bodies l = ap (moment m cost) (one_tree m.site below level bodies l)
 
 -- the moment of two bodies or more is the sum of the octants' moments
 moment_of_cell : (m : Matter) (cost : ℕ → ℕ) (child : ℕ → Tree) → moment m cost (cell_of child) ≡ moment_upto (λ k. moment m cost (child k)) 8
 moment_of_cell m cost child =
-    sums_same _ _ _ _ _ _ _ _ _ _ _ _ (total-cell m.mass child) (total-cell (λ n. m.mass n * (m.site n).x) child) (total-cell (λ n. m.mass n * (m.site n).y) child)
+    sums_same _ _ _ _ _ _ _ _ _ _ _ _ (total-cell m.mass child) (total-cell (λ n. m.mass n * (m.site n).x) child)
+    (total-cell (λ n. m.mass n * (m.site n).y) child)
     (total-cell (λ n. m.mass n * (m.site n).z) child) (total-cell (λ n. 1) child) (total-cell cost child)
 
 pub moment_of_split : (m : Matter) (cost : ℕ → ℕ) (level : ℕ) (bodies : List ℕ) → level < 21 → length bodies ≢ 0 → length bodies ≢ 1
     → moment m cost (octree_from m.site (21 - level) level bodies) ≡ moment_upto (octant_moments m cost level bodies) 8
-moment_of_split m cost level bodies l some many = ap (moment m cost) (split_tree m.site level bodies l some many) ∙ moment_of_cell m cost (octant_trees m.site level bodies)
+moment_of_split m cost level bodies l some many =
+    ap (moment m cost) (split_tree m.site level bodies l some many) ∙ moment_of_cell m cost (octant_trees m.site level bodies)
 
 -- ---- how large a moment is
 
@@ -115,12 +119,14 @@ total_within q site (suc below) level (n ∷ m ∷ rest) =
       arith,
       ap (total q) (octree-many site below level n m rest),
       total-cell q child,
-      sum_upto-mono (λ k. total q (child k)) (λ k. sum_by q (in_octant site level k bodies)) 8 (λ k small. total_within q site below (suc level) (in_octant site level k bodies)),
+      sum_upto-mono (λ k. total q (child k)) (λ k. sum_by q (in_octant site level k bodies)) 8
+          (λ k small. total_within q site below (suc level) (in_octant site level k bodies)),
       sum_octants q site level bodies,
     )
 
 -- a sum of products is no more than the greatest factor times the sum
-pub sum_products : (mass place : ℕ → ℕ) (most : ℕ) (bodies : List ℕ) → ((n : ℕ) → IsIn bodies n → place n ≤ most) → sum_by (λ n. mass n * place n) bodies ≤ most * sum_by mass bodies
+pub sum_products : (mass place : ℕ → ℕ) (most : ℕ) (bodies : List ℕ) → ((n : ℕ) → IsIn bodies n → place n ≤ most)
+    → sum_by (λ n. mass n * place n) bodies ≤ most * sum_by mass bodies
 sum_products mass place most [] h = omega arith
 sum_products mass place most (x ∷ xs) h =
     omega (
@@ -137,15 +143,31 @@ sum_ones [] = refl
 sum_ones (x ∷ xs) = omega (arith, sum_by-cons (λ n. 1) x xs, sum_ones xs)
 
 -- the moment of a list of few bodies fits its words
-pub part_fits : (m : Matter) (cost : ℕ → ℕ) (below level : ℕ) (bodies : List ℕ) → ((n : ℕ) → IsIn bodies n → IsInCube (m.site n)) → sum_by m.mass bodies < 2 ^ 40
+pub part_fits : (m : Matter) (cost : ℕ → ℕ) (below level : ℕ) (bodies : List ℕ) → ((n : ℕ) → IsIn bodies n → IsInCube (m.site n))
+    → sum_by m.mass bodies < 2 ^ 40
     → length bodies ≤ 65536 → sum_by cost bodies < 2 ^ 64 → FitsWords (moment m cost (octree_from m.site below level bodies))
 part_fits m cost below level bodies cube light few cheap =
     let site = m.site in
     record {
       mass = omega (arith, total_within m.mass site below level bodies);
-      px = omega (arith, total_within (λ n. m.mass n * (m.site n).x) site below level bodies, sum_products m.mass (λ n. (m.site n).x) (2 ^ 21) bodies (λ n i. omega (arith, (cube n i).x_fits)));
-      py = omega (arith, total_within (λ n. m.mass n * (m.site n).y) site below level bodies, sum_products m.mass (λ n. (m.site n).y) (2 ^ 21) bodies (λ n i. omega (arith, (cube n i).y_fits)));
-      pz = omega (arith, total_within (λ n. m.mass n * (m.site n).z) site below level bodies, sum_products m.mass (λ n. (m.site n).z) (2 ^ 21) bodies (λ n i. omega (arith, (cube n i).z_fits)));
+      px = omega (
+        arith,
+        total_within (λ n. m.mass n * (m.site n).x) site below level bodies,
+        sum_products m.mass (λ n. (m.site n).x) (2 ^ 21) bodies
+            (λ n i. omega (arith, (cube n i).x_fits)),
+      );
+      py = omega (
+        arith,
+        total_within (λ n. m.mass n * (m.site n).y) site below level bodies,
+        sum_products m.mass (λ n. (m.site n).y) (2 ^ 21) bodies
+            (λ n i. omega (arith, (cube n i).y_fits)),
+      );
+      pz = omega (
+        arith,
+        total_within (λ n. m.mass n * (m.site n).z) site below level bodies,
+        sum_products m.mass (λ n. (m.site n).z) (2 ^ 21) bodies
+            (λ n i. omega (arith, (cube n i).z_fits)),
+      );
       bodies = omega (arith, total_within (λ n. 1) site below level bodies, sum_ones bodies);
       cost = omega (arith, total_within cost site below level bodies);
     }
@@ -155,5 +177,6 @@ pub moment_fits : (m : Matter) (cost : ℕ → ℕ) (bodies : List ℕ) → ((n 
 moment_fits m cost bodies cube light few cheap = part_fits m cost 21 0 bodies cube light few cheap
 
 -- bodies of a list of points have sites of the cube
-pub bodies_in_cube : (sites : List Site) (bodies : List ℕ) → ArePoints sites → All (λ n. n < length sites) bodies → (n : ℕ) → IsIn bodies n → IsInCube (site_at sites n)
+pub bodies_in_cube : (sites : List Site) (bodies : List ℕ) → ArePoints sites → All (λ n. n < length sites) bodies → (n : ℕ) → IsIn bodies n
+    → IsInCube (site_at sites n)
 bodies_in_cube sites bodies rule within n i = rule.in_cube n origin (member_of_all (λ m. m < length sites) bodies n within i)

@@ -1,5 +1,6 @@
 -- What the plain program's steps say of a pull, and how large it is.
-use Rattle.std.proofs.Common.{◌≡◌, ◌≢◌, ◌≤◌, ◌<◌, ◌+◌, ◌-◌, ◌*◌, ◌/◌, ◌^◌, ◌⊎◌, ℕ, zero, suc, Bool, true, false, eqb, ltb, ◌%◌, List, [], ◌∷◌, length, get_or, refl, sym, ap, ◌∙◌, subst, inl, add-one, arith, sum_by}
+use Rattle.std.proofs.Common.{◌≡◌, ◌≢◌, ◌≤◌, ◌<◌, ◌+◌, ◌-◌, ◌*◌, ◌/◌, ◌^◌, ◌⊎◌, ℕ, zero, suc, Bool, true, false, eqb, ltb, ◌%◌, List, [], ◌∷◌, length, get_or}
+use Rattle.std.proofs.Common.{refl, sym, ap, ◌∙◌, subst, inl, add-one, arith, sum_by}
 use Rattle.std.specs.List.{slice_index}
 use Rattle.std.proofs.Math.Nat.{div-zero, mul-le-mul_left}
 use Rattle.std.proofs.lemmas.Bool.{eq-eqb, ne_eqb}
@@ -49,7 +50,8 @@ part_tree m level bodies = octree_from m.site (21 - level) level bodies
 
 pub pull_of_whole : (law : PullLaw) (m : Matter) (n level key : ℕ) (bodies : List ℕ) → level < 21 → length bodies ≢ 0 → length bodies ≢ 1
     → is_whole law (21 - level) key (m.site n) (centre m (part_tree m level bodies)) ≡ true
-    → pull_from law m n (21 - level) key (part_tree m level bodies) ≡ term law (mass_of m (part_tree m level bodies)) (m.site n) (centre m (part_tree m level bodies))
+    → pull_from law m n (21 - level) key (part_tree m level bodies) ≡ term law (mass_of m (part_tree m level bodies)) (m.site n)
+    (centre m (part_tree m level bodies))
 pull_of_whole law m n level key bodies l some many test =
     let child : ℕ → Tree = octant_trees m.site level bodies in
     let e : part_tree m level bodies ≡ cell_of child = split_tree m.site level bodies l some many in
@@ -78,7 +80,8 @@ whole_inside law level key from to l e =
     let test : eqb (key_of from (21 - (21 - level))) key ≡ true = eq-eqb _ _ same in
     rw test refl
 
-pub whole_outside : (law : PullLaw) (level key : ℕ) (from to : Site) → level ≤ 21 → key_of from level ≢ key → is_far law (21 - level) from to ≡ is_whole law (21 - level) key from to
+pub whole_outside : (law : PullLaw) (level key : ℕ) (from to : Site) → level ≤ 21 → key_of from level ≢ key
+    → is_far law (21 - level) from to ≡ is_whole law (21 - level) key from to
 unfolding is_whole
 whole_outside law level key from to l differ =
     let deep : level ≡ 21 - (21 - level) = omega arith in
@@ -96,7 +99,8 @@ far_coded law down num den d2 from to shallow num_is den_is d2_is =
     ∙ ap (λ y. ltb (2 ^ down * 2 ^ down * (law.theta_den * law.theta_den)) (law.theta_num * law.theta_num * y)) d2_is
 
 -- what the test of a cell told
-pub whole_told : (law : PullLaw) (level key : ℕ) (a b c d : Site) (r v : Bool) → a ≡ c → b ≡ d → r ≡ is_whole law (21 - level) key a b → r ≡ v → is_whole law (21 - level) key c d ≡ v
+pub whole_told : (law : PullLaw) (level key : ℕ) (a b c d : Site) (r v : Bool) → a ≡ c → b ≡ d → r ≡ is_whole law (21 - level) key a b → r ≡ v
+    → is_whole law (21 - level) key c d ≡ v
 whole_told law level key a b c d r v p q told value =
     ap (λ y. is_whole law (21 - level) key y d) (sym p) ∙ ap (λ y. is_whole law (21 - level) key a y) (sym q) ∙ sym told ∙ value
 
@@ -115,7 +119,8 @@ first_in : (bodies : List ℕ) → length bodies ≢ 0 → IsIn bodies (get_or b
 first_in [] some = absurd (some refl)
 first_in (x ∷ xs) some = inl refl
 
-pub part_key : (sites : List Site) (masses : List ℕ) (level key : ℕ) (bodies : List ℕ) → level < 21 → length bodies ≢ 0 → IsPart sites masses level key bodies → 8 * key + 7 < 2 ^ 64
+pub part_key : (sites : List Site) (masses : List ℕ) (level key : ℕ) (bodies : List ℕ) → level < 21 → length bodies ≢ 0 → IsPart sites masses level key bodies
+    → 8 * key + 7 < 2 ^ 64
 part_key sites masses level key bodies l some p =
     omega (arith, p.under (get_or bodies 0 0) (first_in bodies some), key-next-fits (site_at sites (get_or bodies 0 0)) level l)
 
@@ -136,18 +141,26 @@ part_child sites masses level key k bodies part small e p =
       weighed = octants_within sites level k bodies own (length masses) refl p.weighed;
       under = λ n i. subst (λ y. key_of (site_at sites n) y ≡ 8 * key + k) deeper (in_octant-under (site_at sites) level key k bodies p.under n i);
       light =
-          omega (arith, p.light, sum_octants mass (site_at sites) level bodies, sum_upto-term (λ j. sum_by mass (in_octant (site_at sites) level j bodies)) k 8 small);
+          omega (
+            arith,
+            p.light,
+            sum_octants mass (site_at sites) level bodies,
+            sum_upto-term (λ j. sum_by mass (in_octant (site_at sites) level j bodies)) k
+                8 small,
+          );
     } in
     subst P (sym e) whole
 
 -- the bodies of a part are no more than the points, and one of them is a body once at most
-part_few : (sites : List Site) (masses : List ℕ) (level key : ℕ) (bodies : List ℕ) (q : ℕ → ℕ) → IsPart sites masses level key bodies → sum_by q bodies ≤ sum_by q (numbers (length sites))
+part_few : (sites : List Site) (masses : List ℕ) (level key : ℕ) (bodies : List ℕ) (q : ℕ → ℕ) → IsPart sites masses level key bodies
+    → sum_by q bodies ≤ sum_by q (numbers (length sites))
 part_few sites masses level key bodies q p =
     sum_of_some q bodies (numbers (length sites)) p.once (numbers_once (length sites))
     (λ n i. (in_numbers (length sites) n).1 (member_of_all (λ m. m < length sites) bodies n p.within i))
 
 -- the pull of a part is within g times its mass
-part_small : (law : PullLaw) (sites : List Site) (masses : List ℕ) (n level key : ℕ) (bodies : List ℕ) → n < length sites → level ≤ 21 → IsPart sites masses level key bodies
+part_small : (law : PullLaw) (sites : List Site) (masses : List ℕ) (n level key : ℕ) (bodies : List ℕ) → n < length sites → level ≤ 21
+    → IsPart sites masses level key bodies
     → IsSmall (law.g * sum_by (λ j. slice_index masses j) bodies) (sum_by (λ j. 1) bodies)
     (pull_from law (matter_by masses sites) n (21 - level) key (octree_from (site_at sites) (21 - level) level bodies))
 part_small law sites masses n level key bodies own l p =
@@ -155,23 +168,34 @@ part_small law sites masses n level key bodies own l p =
     let site : ℕ → Site = site_at sites in
     let tree : Tree = octree_from site (21 - level) level bodies in
     let within : (j : ℕ) → IsIn bodies j → j < length sites = λ j i. member_of_all (λ a. a < length sites) bodies j p.within i in
-    let stands = stands_of_list (length sites) site (21 - level) level key bodies (omega arith) p.once (placed_of_points sites bodies p.rule p.within) p.under within in
+    let stands = stands_of_list (length sites) site (21 - level) level key bodies (omega arith) p.once (placed_of_points sites bodies p.rule p.within) p.under
+    within in
     let once : total (is_own n) tree ≤ 1 =
-    omega (arith, total_within (is_own n) site (21 - level) level bodies, part_few sites masses level key bodies (is_own n) p, count_own n (length sites) own) in
+    omega (
+      arith,
+      total_within (is_own n) site (21 - level) level bodies,
+      part_few sites masses level key bodies (is_own n) p,
+      count_own n (length sites)
+          own,
+    ) in
     small_more _ _ _ _ _ (mul-le-mul_left law.g (total_within m.mass site (21 - level) level bodies))
     (omega (arith, total_own_other n tree, total_within (λ j. 1) site (21 - level) level bodies))
     (pull_small law m (length sites) n (points_apart masses sites n p.rule own) (21 - level) key tree stands once)
 
 -- the sums of the octants' pulls, and each of them, are small
-octant_small : (law : PullLaw) (sites : List Site) (masses : List ℕ) (n level key : ℕ) (bodies : List ℕ) → n < length sites → level < 21 → IsPart sites masses level key bodies
-    → (k : ℕ) → k < 8 → IsSmall (law.g * sum_by (λ j. slice_index masses j) (in_octant (site_at sites) level k bodies)) (sum_by (λ j. 1) (in_octant (site_at sites) level k bodies))
+octant_small : (law : PullLaw) (sites : List Site) (masses : List ℕ) (n level key : ℕ) (bodies : List ℕ) → n < length sites → level < 21
+    → IsPart sites masses level key bodies
+    → (k : ℕ) → k < 8
+    → IsSmall (law.g * sum_by (λ j. slice_index masses j) (in_octant (site_at sites) level k bodies))
+    (sum_by (λ j. 1) (in_octant (site_at sites) level k bodies))
     (octant_pulls law (matter_by masses sites) n level key bodies k)
 octant_small law sites masses n level key bodies own l p k small =
     part_small law sites masses n (level + 1) (8 * key + k) (in_octant (site_at sites) level k bodies) own (omega arith)
     (part_child sites masses level key k bodies (in_octant (site_at sites) level k bodies) small refl p)
 
 pub front_small : (law : PullLaw) (sites : List Site) (masses : List ℕ) (n level key : ℕ) (bodies : List ℕ) → n < length sites → level < 21 → law.g ≤ 2 ^ 40
-    → IsPart sites masses level key bodies → (k : ℕ) → k ≤ 8 → IsSmall (2 ^ 80) 65536 (pull_upto (octant_pulls law (matter_by masses sites) n level key bodies) k)
+    → IsPart sites masses level key bodies → (k : ℕ) → k ≤ 8
+    → IsSmall (2 ^ 80) 65536 (pull_upto (octant_pulls law (matter_by masses sites) n level key bodies) k)
 front_small law sites masses n level key bodies own l constant p k small =
     let mass : ℕ → ℕ = λ j. slice_index masses j in
     let site : ℕ → Site = site_at sites in
@@ -185,13 +209,15 @@ front_small law sites masses n level key bodies own l constant p k small =
     let few = part_few sites masses level key bodies (λ a. 1) p in
     let points = count_numbers (length sites) in
     small_more _ _ _ _ _ (omega (arith, fits, scaled, sums, sum_upto-le b k 8 small)) (omega (arith, count, few, points, p.rule.few, sum_upto-le c k 8 small))
-    (upto_small (octant_pulls law (matter_by masses sites) n level key bodies) b c k (λ j i. octant_small law sites masses n level key bodies own l p j (omega arith)))
+    (upto_small (octant_pulls law (matter_by masses sites) n level key bodies) b c k
+    (λ j i. octant_small law sites masses n level key bodies own l p j (omega arith)))
 
 pub one_small : (law : PullLaw) (sites : List Site) (masses : List ℕ) (n level key : ℕ) (bodies : List ℕ) → n < length sites → level < 21 → law.g ≤ 2 ^ 40
     → IsPart sites masses level key bodies → (k : ℕ) → k < 8 → IsSmall (2 ^ 80) 65536 (octant_pulls law (matter_by masses sites) n level key bodies k)
 one_small law sites masses n level key bodies own l constant p k small =
     let site : ℕ → Site = site_at sites in
-    let child : IsPart sites masses (level + 1) (8 * key + k) (in_octant site level k bodies) = part_child sites masses level key k bodies (in_octant site level k bodies) small refl p in
+    let child : IsPart sites masses (level + 1) (8 * key + k) (in_octant site level k bodies) = part_child sites masses level key k bodies
+    (in_octant site level k bodies) small refl p in
     let fits = pull_fits law.g (sum_by (λ j. slice_index masses j) (in_octant site level k bodies)) constant child.light in
     let few = part_few sites masses (level + 1) (8 * key + k) (in_octant site level k bodies) (λ a. 1) child in
     small_more _ _ _ _ _ (omega (arith, fits)) (omega (arith, few, count_numbers (length sites), p.rule.few))
@@ -220,9 +246,11 @@ pub centre_inside : (sites : List Site) (masses : List ℕ) (level key : ℕ) (b
 centre_inside sites masses level key bodies p =
     let m : Matter = matter_by masses sites in
     let tree : Tree = octree_from (site_at sites) (21 - level) level bodies in
-    let cube : (n : ℕ) → IsIn (order tree) n → IsInCube (site_at sites n) = λ n i. bodies_in_cube sites bodies p.rule p.within n (from_list (site_at sites) (21 - level) level bodies n i) in
+    let cube : (n : ℕ) → IsIn (order tree) n
+    → IsInCube (site_at sites n) = λ n i. bodies_in_cube sites bodies p.rule p.within n (from_list (site_at sites) (21 - level) level bodies n i) in
     let mass = ap (λ y. (2 ^ 21 - 1) * y) (total-order m.mass tree) in
-    let bound : (place : ℕ → ℕ) → ((n : ℕ) → IsIn (order tree) n → place n ≤ 2 ^ 21 - 1) → total (λ n. m.mass n * place n) tree ≤ (2 ^ 21 - 1) * total m.mass tree =
+    let bound : (place : ℕ → ℕ) → ((n : ℕ) → IsIn (order tree) n → place n ≤ 2 ^ 21 - 1)
+    → total (λ n. m.mass n * place n) tree ≤ (2 ^ 21 - 1) * total m.mass tree =
     λ place h. omega (arith, mass, total-order (λ n. m.mass n * place n) tree, sum_products m.mass place (2 ^ 21 - 1) (order tree) h) in
     record {
       x_fits = quotient_small _ _ (bound (λ n. (m.site n).x) (λ n i. omega (arith, (cube n i).x_fits)));

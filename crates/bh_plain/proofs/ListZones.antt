@@ -1,5 +1,6 @@
 -- What the plain program's steps say of a zone.
-use Rattle.std.proofs.Common.{◌≡◌, ◌≤◌, ◌<◌, ◌+◌, ◌*◌, ◌/◌, ℕ, zero, suc, cond, eqb, List, [], ◌∷◌, ◌++◌, All, length, get_or, drop, refl, sym, ap, ◌∙◌, subst, inl, inr, arith, add-one, append_assoc, append-nil}
+use Rattle.std.proofs.Common.{◌≡◌, ◌≤◌, ◌<◌, ◌+◌, ◌*◌, ◌/◌, ℕ, zero, suc, cond, eqb, List, [], ◌∷◌, ◌++◌, All, length, get_or, drop, refl, sym, ap, ◌∙◌}
+use Rattle.std.proofs.Common.{subst, inl, inr, arith, add-one, append_assoc, append-nil}
 use Rattle.std.proofs.Math.Seq.{drop-cons}
 use Rattle.std.proofs.Math.ListN.{drop_of_length-le}
 use Rattle.std.proofs.lemmas.Bool.Decides.{eqb_tells}
@@ -13,7 +14,8 @@ use Rattle.bh_model.proofs.ZoneCuts.{zone_from-none, zone_from-other, zone_from-
 
 -- the zone from a body on: the body if its share is the zone's, and the zone from the next body on
 zone_from-first : (cost : ℕ → ℕ) (workers whole before x : ℕ) (xs : List ℕ) (w : ℕ)
-    → zone_from cost workers whole before (x ∷ xs) w ≡ cond (eqb (before * workers / whole) w) (x ∷ []) [] ++ zone_from cost workers whole (before + cost x) xs w
+    → zone_from cost workers whole before (x ∷ xs) w ≡ cond (eqb (before * workers / whole) w) (x ∷ []) [] ++ zone_from cost workers whole (before + cost x)
+    xs w
 zone_from-first cost workers whole before x xs w =
     elim (eqb_tells (before * workers / whole) w) [
       | inl same ↦ rw same.0 (zone_from-own cost workers whole before x xs w same.1)
@@ -48,7 +50,8 @@ all_of_members P (x ∷ xs) h zero d l = h x (inl refl)
 all_of_members P (x ∷ xs) h (suc i) d l = all_of_members P xs (λ n j. h n (inr j)) i d (omega arith)
 
 -- the bodies in tree order are of the list
-pub order_within : (site : ℕ → Site) (bodies found : List ℕ) (most : ℕ) → found ≡ order (octree site bodies) → All (λ n. n < most) bodies → All (λ n. n < most) found
+pub order_within : (site : ℕ → Site) (bodies found : List ℕ) (most : ℕ) → found ≡ order (octree site bodies) → All (λ n. n < most) bodies
+    → All (λ n. n < most) found
 order_within site bodies found most e h =
     subst (λ (y : List ℕ). All (λ n. n < most) y) (sym e)
     (all_of_members (λ n. n < most) (order (octree site bodies)) (λ n i. member_of_all (λ m. m < most) bodies n h (from_list site 21 0 bodies n i)))

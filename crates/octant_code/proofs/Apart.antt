@@ -20,7 +20,8 @@ sites_differ sites x n rule x_in n_in differ =
     ]
 
 -- two sites that share a cube and its octant share the next cube
-pub key_deeper : (s t : Site) (level : ℕ) → key_of s level ≡ key_of t level → octant_of s level ≡ octant_of t level → key_of s (suc level) ≡ key_of t (suc level)
+pub key_deeper : (s t : Site) (level : ℕ) → key_of s level ≡ key_of t level → octant_of s level ≡ octant_of t level
+    → key_of s (suc level) ≡ key_of t (suc level)
 key_deeper s t level keys octants =
     key-suc s level ∙ (ap (λ y. 8 * y + octant_of s level) keys ∙ ap (λ y. 8 * key_of t level + y) octants) ∙ sym (key-suc t level)
 
@@ -32,8 +33,10 @@ level_shallow sites x n level rule x_in n_in differ deep keys =
       | inl shallow ↦ omega arith
       | inr last ↦
           let whole : level ≡ 21 = omega arith in
-          let both : key_of (site_at sites x) 21 ≡ key_of (site_at sites n) 21 = subst (λ (y : ℕ). key_of (site_at sites x) y ≡ key_of (site_at sites n) y) whole keys in
-          absurd (sites_differ sites x n rule x_in n_in differ (same_site (site_at sites x) (site_at sites n) (site_inside sites x rule x_in) (site_inside sites n rule n_in) both))
+          let both : key_of (site_at sites x) 21 ≡ key_of (site_at sites n) 21 = subst (λ (y : ℕ). key_of (site_at sites x) y ≡ key_of (site_at sites n) y)
+          whole keys in
+          absurd (sites_differ sites x n rule x_in n_in differ
+          (same_site (site_at sites x) (site_at sites n) (site_inside sites x rule x_in) (site_inside sites n rule n_in) both))
     ]
 
 -- two numbers whose sites share a cube and its octant: the octant is not of the last level either

@@ -8,7 +8,8 @@ use Rattle.octant_code.proofs.InCube.{site_parts}
 use Rattle.octant_code.proofs.Roots.{square_ge}
 
 -- what a squared distance is made of
-pub squared_distance-parts : (s t : Site) → squared_distance s t ≡ abs_diff s.x t.x * abs_diff s.x t.x + abs_diff s.y t.y * abs_diff s.y t.y + abs_diff s.z t.z * abs_diff s.z t.z
+pub squared_distance-parts : (s t : Site)
+    → squared_distance s t ≡ abs_diff s.x t.x * abs_diff s.x t.x + abs_diff s.y t.y * abs_diff s.y t.y + abs_diff s.z t.z * abs_diff s.z t.z
 unfolding squared_distance squared_gap
 squared_distance-parts s t = refl
 
@@ -27,7 +28,8 @@ squared_distance-small s t p q =
     omega (
       arith,
       squared_distance-parts s t,
-      squares_small (abs_diff s.x t.x) (abs_diff s.y t.y) (abs_diff s.z t.z) (omega (arith, p.x_fits, q.x_fits)) (omega (arith, p.y_fits, q.y_fits)) (omega (arith, p.z_fits, q.z_fits)),
+      squares_small (abs_diff s.x t.x) (abs_diff s.y t.y) (abs_diff s.z t.z) (omega (arith, p.x_fits, q.x_fits)) (omega (arith, p.y_fits, q.y_fits))
+          (omega (arith, p.z_fits, q.z_fits)),
     )
 
 -- each difference of coordinates is at most the squared distance
@@ -55,7 +57,8 @@ squared_distance-positive s t differ =
     ]
 
 -- a squared distance from the three differences
-pub squared_distance-from : (s t : Site) (x y z : ℕ) → x ≡ abs_diff s.x t.x → y ≡ abs_diff s.y t.y → z ≡ abs_diff s.z t.z → x * x + y * y + z * z ≡ squared_distance s t
+pub squared_distance-from : (s t : Site) (x y z : ℕ) → x ≡ abs_diff s.x t.x → y ≡ abs_diff s.y t.y → z ≡ abs_diff s.z t.z
+    → x * x + y * y + z * z ≡ squared_distance s t
 squared_distance-from s t x y z p q r =
     ap (λ u. u * u + y * y + z * z) p ∙ ap (λ u. abs_diff s.x t.x * abs_diff s.x t.x + u * u + z * z) q
     ∙ ap (λ u. abs_diff s.x t.x * abs_diff s.x t.x + abs_diff s.y t.y * abs_diff s.y t.y + u * u) r ∙ sym (squared_distance-parts s t)

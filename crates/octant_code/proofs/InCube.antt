@@ -8,7 +8,8 @@ use Rattle.octant_code.proofs.Keys.{key-suc, octant-bits, octant-small, same_par
 high_bits : (v level : ℕ) → level < 21 → v / 2 ^ (20 - level) ≡ 2 * (v / 2 ^ (21 - level)) + bit_at v level
 high_bits v level h =
     let e : 21 - level ≡ suc (20 - level) = omega arith in
-    let d : v / 2 ^ (20 - level) / 2 ≡ v / 2 ^ (21 - level) = div-div-eq-div-mul v (2 ^ (20 - level)) 2 ∙ ap (λ y. v / y) (sym (pow-suc 2 (20 - level)) ∙ ap (λ y. 2 ^ y) (sym e)) in
+    let d : v / 2 ^ (20 - level) / 2 ≡ v / 2 ^ (21 - level) = div-div-eq-div-mul v (2 ^ (20 - level)) 2
+    ∙ ap (λ y. v / y) (sym (pow-suc 2 (20 - level)) ∙ ap (λ y. 2 ^ y) (sym e)) in
     omega (arith, d)
 
 -- the coordinates above a level are equal
@@ -22,10 +23,12 @@ small_div : (v : ℕ) → v < 2 ^ 21 → v / 2 ^ (21 - 0) ≡ 0
 small_div v h = omega arith
 
 -- one more bit agrees
-next : (v w level : ℕ) → level < 21 → v / 2 ^ (21 - level) ≡ w / 2 ^ (21 - level) → bit_at v level ≡ bit_at w level → v / 2 ^ (21 - suc level) ≡ w / 2 ^ (21 - suc level)
+next : (v w level : ℕ) → level < 21 → v / 2 ^ (21 - level) ≡ w / 2 ^ (21 - level) → bit_at v level ≡ bit_at w level
+    → v / 2 ^ (21 - suc level) ≡ w / 2 ^ (21 - suc level)
 next v w level h e b =
     let same : 21 - suc level ≡ 20 - level = omega arith in
-    ap (λ y. v / 2 ^ y) same ∙ high_bits v level h ∙ (ap (λ y. 2 * y + bit_at v level) e ∙ ap (λ y. 2 * (w / 2 ^ (21 - level)) + y) b) ∙ sym (high_bits w level h) ∙ ap (λ y. w / 2 ^ y) (sym same)
+    ap (λ y. v / 2 ^ y) same ∙ high_bits v level h ∙ (ap (λ y. 2 * y + bit_at v level) e ∙ ap (λ y. 2 * (w / 2 ^ (21 - level)) + y) b)
+    ∙ sym (high_bits w level h) ∙ ap (λ y. w / 2 ^ y) (sym same)
 
 -- sites of one key at a level agree above it
 pub agree : (s t : Site) → IsInCube s → IsInCube t → (level : ℕ) → level ≤ 21 → key_of s level ≡ key_of t level → AgreeAbove s t level
@@ -36,9 +39,12 @@ agree s t p q zero l e = record {
 }
 agree s t p q (suc level) l e =
     let both : 8 * key_of s level + octant_of s level ≡ 8 * key_of t level + octant_of t level = sym (key-suc s level) ∙ e ∙ key-suc t level in
-    let up = agree s t p q level (omega arith) (same_parent (key_of s level) (key_of t level) (octant_of s level) (octant_of t level) (octant-small s level) (octant-small t level) both) in
-    let same : octant_of s level ≡ octant_of t level = same_child (key_of s level) (key_of t level) (octant_of s level) (octant_of t level) (octant-small s level) (octant-small t level) both in
-    let bits : 4 * bit_at s.x level + 2 * bit_at s.y level + bit_at s.z level ≡ 4 * bit_at t.x level + 2 * bit_at t.y level + bit_at t.z level = sym (octant-bits s level) ∙ same ∙ octant-bits t level in
+    let up = agree s t p q level (omega arith)
+    (same_parent (key_of s level) (key_of t level) (octant_of s level) (octant_of t level) (octant-small s level) (octant-small t level) both) in
+    let same : octant_of s level ≡ octant_of t level = same_child (key_of s level) (key_of t level) (octant_of s level) (octant_of t level)
+    (octant-small s level) (octant-small t level) both in
+    let bits : 4 * bit_at s.x level + 2 * bit_at s.y level + bit_at s.z level ≡ 4 * bit_at t.x level + 2 * bit_at t.y level + bit_at t.z level = sym
+    (octant-bits s level) ∙ same ∙ octant-bits t level in
     record {
       x_same = next s.x t.x level (omega arith) up.x_same (omega (arith, bits));
       y_same = next s.y t.y level (omega arith) up.y_same (omega (arith, bits));

@@ -95,5 +95,6 @@ pub level_of_key : (s : Site) (key level l : ℕ) → 8 ^ level ≤ key → key 
 level_of_key s key level l low high e =
     elim (cases_lt l level) [
       | inl h ↦ absurd (omega (arith, key-high s l, pow8-mono (suc l) level (omega arith), pow-suc 8 l))
-      | inr g ↦ elim (cases_lt level l) [ inl h ↦ absurd (omega (arith, key-low s l, pow8-mono (suc level) l (omega arith), pow-suc 8 level)) | inr h ↦ omega arith ]
+      | inr g ↦ elim (cases_lt level l)
+          [ inl h ↦ absurd (omega (arith, key-low s l, pow8-mono (suc level) l (omega arith), pow-suc 8 level)) | inr h ↦ omega arith ]
     ]

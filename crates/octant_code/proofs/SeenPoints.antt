@@ -1,5 +1,6 @@
 -- The points that a test has seen, by a map from points to positions.
-use Rattle.std.proofs.Common.{ℕ, ◌+◌, ◌<◌, ◌≤◌, ◌≡◌, ◌≢◌, ◌&&◌, ◌==◌, Bool, true, false, cond, List, length, take, Option, Some, None, refl, sym, ◌∙◌, ap, arith, inl, inr, eqb-true, eq-eqb}
+use Rattle.std.proofs.Common.{ℕ, ◌+◌, ◌<◌, ◌≤◌, ◌≡◌, ◌≢◌, ◌&&◌, ◌==◌, Bool, true, false, cond, List, length, take, Option, Some, None, refl, sym, ◌∙◌, ap}
+use Rattle.std.proofs.Common.{arith, inl, inr, eqb-true, eq-eqb}
 use Rattle.std.proofs.lemmas.Bool.{cases_lt}
 use Rattle.std.proofs.lemmas.List.{get_or-take, length-take-le}
 use Rattle.octant_code.specs.Space.{Site, origin, same_coordinates}
@@ -37,7 +38,8 @@ seen_none sites get e = record {
 
 -- a new point is entered at the next position
 pub seen_more : (sites : List Site) (get new : Site → Option ℕ) (same : Site → Bool) (i : ℕ) → HasSeen sites get i → get (site_at sites i) ≡ None
-    → same (site_at sites i) ≡ true → ((q : Site) → same q ≡ true → site_at sites i ≡ q) → ((q : Site) → new q ≡ cond (same q) (Some i) (get q)) → HasSeen sites new (i + 1)
+    → same (site_at sites i) ≡ true → ((q : Site) → same q ≡ true → site_at sites i ≡ q) → ((q : Site) → new q ≡ cond (same q) (Some i) (get q))
+    → HasSeen sites new (i + 1)
 seen_more sites get new same i h none self only here =
     let other : (j : ℕ) → j < i → site_at sites i ≢ site_at sites j = λ j l e. let f : Some j ≡ None = sym (h.forth j l) ∙ ap get (sym e) ∙ none in cc in
     let mine : new (site_at sites i) ≡ Some i = here (site_at sites i) ∙ ap (λ b. cond b (Some i) (get (site_at sites i))) self in
@@ -67,7 +69,8 @@ seen_more sites get new same i h none self only here =
         (omega (arith, p.0), p.1)
 
 -- a point that was seen before is the first that stands twice
-pub seen_again : (sites : List Site) (get : Site → Option ℕ) (i v : ℕ) → HasSeen sites get i → i < length sites → get (site_at sites i) ≡ Some v → AreFirstSame sites v i
+pub seen_again : (sites : List Site) (get : Site → Option ℕ) (i v : ℕ) → HasSeen sites get i → i < length sites → get (site_at sites i) ≡ Some v
+    → AreFirstSame sites v i
 seen_again sites get i v h l e =
     let p = h.back (site_at sites i) v e in
     let here : length (take i sites) ≡ i = length-take-le i sites (omega arith) in

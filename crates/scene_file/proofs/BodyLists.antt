@@ -1,5 +1,6 @@
 -- Lists of bodies that grow by one body at a new point.
-use Rattle.std.proofs.Common.{◌≡◌, ◌≢◌, ◌∙◌, ◌<◌, ◌≤◌, ◌+◌, ◌^◌, ℕ, suc, zero, Bool, true, false, List, [], ◌∷◌, ◌++◌, length, Option, Some, None, Result, Ok, Err, cond, refl, sym, arith, inl, inr, length-append, add-zero, zero-add}
+use Rattle.std.proofs.Common.{◌≡◌, ◌≢◌, ◌∙◌, ◌<◌, ◌≤◌, ◌+◌, ◌^◌, ℕ, suc, zero, Bool, true, false, List, [], ◌∷◌, ◌++◌, length, Option, Some, None, Result, Ok}
+use Rattle.std.proofs.Common.{Err, cond, refl, sym, arith, inl, inr, length-append, add-zero, zero-add}
 use Rattle.std.specs.Result.{OnOk, is_ok}
 use Rattle.std.specs.List.{All, position_from}
 use Rattle.std.proofs.lemmas.Bool.{cases_Bool}
@@ -42,19 +43,23 @@ number_from-push (b ∷ bs) body q k none =
     let (other, rest) = found_none (same_coordinates body.at b.at) k _ none in
     let more = number_from-push bs body q (k + 1) rest in
     let sum : k + 1 + length bs ≡ k + length (b ∷ bs) = omega arith in
-    let apart : same_coordinates q b.at ≡ true → same_coordinates q body.at ≡ false = λ here. let there = same_coordinates_true q b.at here in rw there (same_coordinates-swap body.at b.at other) in
-    rw (more, sum) (put_behind (same_coordinates q b.at) (same_coordinates q body.at) k (k + length (b ∷ bs)) (position_from (λ (b : Body). same_coordinates q b.at) (k + 1) bs) apart)
+    let apart : same_coordinates q b.at ≡ true
+    → same_coordinates q body.at ≡ false = λ here. let there = same_coordinates_true q b.at here in rw there (same_coordinates-swap body.at b.at other) in
+    rw (more, sum) (put_behind (same_coordinates q b.at) (same_coordinates q body.at) k (k + length (b ∷ bs))
+    (position_from (λ (b : Body). same_coordinates q b.at) (k + 1) bs) apart)
 
 -- a body that comes at a new point is the one there
 pub number_at-push : (bodies : List Body) (body : Body) (q : Site) → number_at bodies body.at ≡ None
     → number_at (bodies ++ body ∷ []) q ≡ cond (same_coordinates body.at q) (Some (length bodies)) (number_at bodies q)
 number_at-push bodies body q none = elim (cases_Bool (same_coordinates body.at q)) [
-  | inl meet ↦ let here = same_coordinates_true body.at q meet in let back : same_coordinates q body.at ≡ true = rw here (same_coordinates_refl q) in rw (number_from-push bodies body q 0 none, back, meet, zero-add) refl
+  | inl meet ↦ let here = same_coordinates_true body.at q meet in let back : same_coordinates q body.at ≡ true = rw here
+      (same_coordinates_refl q) in rw (number_from-push bodies body q 0 none, back, meet, zero-add) refl
   | inr part ↦ rw (number_from-push bodies body q 0 none, same_coordinates-swap body.at q part, part) refl
 ]
 
 -- no body is at a point where none is found
-none_from : (bodies : List Body) (s : Site) (k i : ℕ) → position_from (λ (b : Body). same_coordinates s b.at) k bodies ≡ None → i < length bodies → site_at (sites_of bodies) i ≢ s
+none_from : (bodies : List Body) (s : Site) (k i : ℕ) → position_from (λ (b : Body). same_coordinates s b.at) k bodies ≡ None → i < length bodies
+    → site_at (sites_of bodies) i ≢ s
 none_from [] s k i none within at = absurd (omega arith)
 none_from (b ∷ bs) s k zero none within at =
     let (other, rest) = found_none (same_coordinates s b.at) k _ none in
@@ -85,7 +90,8 @@ pub total_mass-push : (bodies : List Body) (body : Body) → total_mass (bodies 
 total_mass-push bodies body = rw (sum_by-append (λ (b : Body). b.mass) bodies (body ∷ []), zero-add) refl
 
 -- bodies with one more that may follow them keep the rule
-pub rule-push : (bodies : List Body) (body : Body) → AreBodies bodies → length bodies < 65536 → 0 < body.mass → total_mass bodies + body.mass < 2 ^ 40 → number_at bodies body.at ≡ None
+pub rule-push : (bodies : List Body) (body : Body) → AreBodies bodies → length bodies < 65536 → 0 < body.mass → total_mass bodies + body.mass < 2 ^ 40
+    → number_at bodies body.at ≡ None
     → IsInCube body.at → AreBodies (bodies ++ body ∷ [])
 rule-push bodies body rule place mass small none inside =
     let more = length-append bodies (body ∷ []) in
@@ -95,7 +101,8 @@ rule-push bodies body rule place mass small none inside =
       total = rw (total_mass-push bodies body) small;
       apart = rw (map-append (λ (b : Body). b.at) bodies (body ∷ [])) (apart-push (sites_of bodies) body.at rule.apart
           (λ i within. none_from bodies body.at 0 i none (rw (length-map bodies (λ (b : Body). b.at)) at within)));
-      in_cube = rw (map-append (λ (b : Body). b.at) bodies (body ∷ [])) (All-append IsInCube (sites_of bodies) (body.at ∷ []) rule.in_cube (All-one IsInCube body.at inside));
+      in_cube = rw (map-append (λ (b : Body). b.at) bodies (body ∷ []))
+          (All-append IsInCube (sites_of bodies) (body.at ∷ []) rule.in_cube (All-one IsInCube body.at inside));
     }
 
 -- what holds where an answer is Ok holds of one that is

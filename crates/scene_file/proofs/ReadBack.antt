@@ -1,5 +1,6 @@
 -- The text of a scene's bodies reads as these bodies.
-use Rattle.std.proofs.Common.{◌≡◌, ◌≢◌, ◌∙◌, ◌<◌, ◌≤◌, ◌+◌, ◌*◌, ◌-◌, ◌^◌, ℕ, suc, Bool, true, false, List, [], ◌∷◌, ◌++◌, All, map, take, length, get_or, Some, None, Ok, codes, decimal, refl, sym, ap, subst, arith, inl, inr, length-append, lt-ltb}
+use Rattle.std.proofs.Common.{◌≡◌, ◌≢◌, ◌∙◌, ◌<◌, ◌≤◌, ◌+◌, ◌*◌, ◌-◌, ◌^◌, ℕ, suc, Bool, true, false, List, [], ◌∷◌, ◌++◌, All, map, take, length, get_or}
+use Rattle.std.proofs.Common.{Some, None, Ok, codes, decimal, refl, sym, ap, subst, arith, inl, inr, length-append, lt-ltb}
 use Rattle.std.specs.Prelude.{flat_map, nat_le, nat_lt}
 use Rattle.std.specs.Int.{IsInRange}
 use Rattle.std.specs.List.{list_all, position_from}
@@ -42,7 +43,15 @@ pub record IsInRanges (b : Body) : Type 0 where
 -- so are those of a body with mass whose point lies in the cube
 pub in_ranges : (b c : Body) → b ≡ c → 0 < c.mass → b.mass < 2 ^ 32 → IsInCube b.at → IsInRanges c
 in_ranges b c same massive mass inside =
-    subst IsInRanges same (record { massive = rw same massive; mass = omega arith; x = omega (arith, inside.x_fits); y = omega (arith, inside.y_fits); z = omega (arith, inside.z_fits) })
+    subst IsInRanges same
+    (record {
+      massive = rw same massive;
+      mass = omega arith;
+      x = omega (arith, inside.x_fits);
+      y = omega (arith, inside.y_fits);
+      z = omega
+          (arith, inside.z_fits);
+    })
 
 -- each byte of a number in decimal is a digit
 All-decimal : (n : ℕ) → n < 2 ^ 64 → All (IsInRange 48 57) (decimal n)
@@ -55,7 +64,8 @@ list_all_of p (x ∷ xs) h = rw (All-head (λ b. p b ≡ true) x xs h, list_all_
 
 all_digits : (n : ℕ) → n < 2 ^ 64 → list_all is_ascii_digit (decimal n) ≡ true
 all_digits n small =
-    list_all_of is_ascii_digit (decimal n) (All-weaker (IsInRange 48 57) (λ b. is_ascii_digit b ≡ true) (λ b h. grind (arith, nat_tests)) (decimal n) (All-decimal n small))
+    list_all_of is_ascii_digit (decimal n)
+    (All-weaker (IsInRange 48 57) (λ b. is_ascii_digit b ≡ true) (λ b h. grind (arith, nat_tests)) (decimal n) (All-decimal n small))
 
 not_below : (a b : ℕ) → b ≤ a → nat_lt a b ≡ false
 not_below a b h = grind (arith, nat_tests)
@@ -88,7 +98,8 @@ row_is b h =
     (append_assoc (codes "body") (flat_map (λ n. 44 ∷ decimal n) (b.mass ∷ b.at.x ∷ b.at.y ∷ b.at.z ∷ [])) (10 ∷ []))
 
 -- the next record of a text that begins with that of a body
-next_row : (b : Body) (tail : List ℕ) → IsInRanges b → next_record default_config st.StartRecord [] [] (body_text b ++ tail) ≡ Some (row_of b, st.StartRecord, tail)
+next_row : (b : Body) (tail : List ℕ) → IsInRanges b
+    → next_record default_config st.StartRecord [] [] (body_text b ++ tail) ≡ Some (row_of b, st.StartRecord, tail)
 next_row b tail h =
     subst (λ (t : List ℕ). next_record default_config st.StartRecord [] [] (t ++ tail) ≡ Some (row_of b, st.StartRecord, tail)) (row_is b h)
     (read-write-many (codes "body") (decimal b.mass) (decimal b.at.x ∷ decimal b.at.y ∷ decimal b.at.z ∷ []) tail)
@@ -98,7 +109,8 @@ unfolding next_record
 no_row = refl
 
 -- the records of the text of bodies
-rows_back : (bodies : List Body) (k : ℕ) → All IsInRanges bodies → records_from default_config (length bodies + k) st.StartRecord (text_of_scene bodies) ≡ map row_of bodies
+rows_back : (bodies : List Body) (k : ℕ) → All IsInRanges bodies
+    → records_from default_config (length bodies + k) st.StartRecord (text_of_scene bodies) ≡ map row_of bodies
 unfolding records_from
 rows_back [] k h = none_from default_config st.StartRecord [] (0 + k) no_row
 rows_back (b ∷ bs) k h =
@@ -106,12 +118,14 @@ rows_back (b ∷ bs) k h =
     rw (e, next_row b (text_of_scene bs) (All-head IsInRanges b bs h), rows_back bs k (All-tail IsInRanges b bs h)) refl
 
 -- the text of one body more
-pub text_more : (bodies : List Body) (n : ℕ) (old new : List ℕ) → n < length bodies → old ≡ text_of_scene (take n bodies) → new ≡ old ++ body_text (body_at bodies n)
+pub text_more : (bodies : List Body) (n : ℕ) (old new : List ℕ) → n < length bodies → old ≡ text_of_scene (take n bodies)
+    → new ≡ old ++ body_text (body_at bodies n)
     → new ≡ text_of_scene (take (n + 1) bodies)
 text_more bodies n old new within before after =
     let b = body_at bodies n in
     let more : text_of_scene (take (n + 1) bodies) ≡ text_of_scene (take n bodies) ++ body_text b =
-    ap (λ l. text_of_scene l) (take_more bodies n nobody within) ∙ flat_map-append body_text (take n bodies) (b ∷ []) ∙ ap (λ t. text_of_scene (take n bodies) ++ t) (append-nil (body_text b)) in
+    ap (λ l. text_of_scene l) (take_more bodies n nobody within) ∙ flat_map-append body_text (take n bodies) (b ∷ [])
+    ∙ ap (λ t. text_of_scene (take n bodies) ++ t) (append-nil (body_text b)) in
     after ∙ ap (λ t. t ++ body_text b) before ∙ sym more
 
 -- the text has no mark at its front
@@ -139,7 +153,8 @@ body_short b h =
     (omega arith, omega arith)
 
 -- the text of bodies is short, and has a byte for each
-text_short : (bodies : List Body) → All IsInRanges bodies → (length (text_of_scene bodies) ≤ 49 * length bodies) × (length bodies ≤ length (text_of_scene bodies))
+text_short : (bodies : List Body) → All IsInRanges bodies
+    → (length (text_of_scene bodies) ≤ 49 * length bodies) × (length bodies ≤ length (text_of_scene bodies))
 text_short [] h = (omega arith, omega arith)
 text_short (b ∷ bs) h =
     let first = body_short b (All-head IsInRanges b bs h) in
@@ -160,7 +175,8 @@ body_back number b h =
     ) refl
 
 -- no body is found at a point where none is
-none_at : (bodies : List Body) (s : Site) (k : ℕ) → ((i : ℕ) → i < length bodies → site_at (sites_of bodies) i ≢ s) → position_from (λ (b : Body). same_coordinates s b.at) k bodies ≡ None
+none_at : (bodies : List Body) (s : Site) (k : ℕ) → ((i : ℕ) → i < length bodies → site_at (sites_of bodies) i ≢ s)
+    → position_from (λ (b : Body). same_coordinates s b.at) k bodies ≡ None
 none_at [] s k apart = refl
 none_at (b ∷ bs) s k apart = elim (cases_Bool (same_coordinates s b.at)) [
   | inl meet ↦ absurd (apart 0 (omega arith) (sym (same_coordinates_true s b.at meet)))
@@ -185,13 +201,15 @@ joined_back number start more b rule =
     let all = length-append start (b ∷ more) in
     let few : length start < 65536 = omega (arith, rule.few) in
     let same : total_mass (start ++ b ∷ more) ≡ total_mass ((start ++ b ∷ []) ++ more) = ap (λ l. total_mass l) (sym (append_assoc start (b ∷ []) more)) in
-    let sum : total_mass ((start ++ b ∷ []) ++ more) ≡ total_mass (start ++ b ∷ []) + total_mass more = sum_by-append (λ (b : Body). b.mass) (start ++ b ∷ []) more in
+    let sum : total_mass ((start ++ b ∷ []) ++ more) ≡ total_mass (start ++ b ∷ []) + total_mass more = sum_by-append (λ (b : Body). b.mass) (start ++ b ∷ [])
+    more in
     let one = total_mass-push start b in
     let small : total_mass start + b.mass < 2 ^ 40 = omega (arith, rule.total, same, sum, one) in
     rw (not_up_to 65536 (length start) few, not_up_to (2 ^ 40) (total_mass start + b.mass) small, free start more b rule) refl
 
 -- the records of bodies that keep the rule give these bodies
-all_back : (bodies start : List Body) (number : ℕ) → AreBodies (start ++ bodies) → All IsInRanges bodies → bodies_after (map row_of bodies) number start ≡ Ok (start ++ bodies)
+all_back : (bodies start : List Body) (number : ℕ) → AreBodies (start ++ bodies) → All IsInRanges bodies
+    → bodies_after (map row_of bodies) number start ≡ Ok (start ++ bodies)
 unfolding bodies_after
 all_back [] start number rule h = rw (append-nil start) refl
 all_back (b ∷ bs) start number rule h =
@@ -206,5 +224,6 @@ scene_back bodies rule h =
     let fits : length (text_of_scene bodies) ≤ 16777216 = omega (arith, rule.few) in
     let fuel : length (text_of_scene bodies) + 1 ≡ length bodies + (length (text_of_scene bodies) + 1 - length bodies) = omega arith in
     let rows : records default_config (text_of_scene bodies) ≡ map row_of bodies =
-    ap (λ n. records_from default_config n st.StartRecord (text_of_scene bodies)) fuel ∙ rows_back bodies (length (text_of_scene bodies) + 1 - length bodies) h in
+    ap (λ n. records_from default_config n st.StartRecord (text_of_scene bodies)) fuel
+    ∙ rows_back bodies (length (text_of_scene bodies) + 1 - length bodies) h in
     rw (not_below 16777216 (length (text_of_scene bodies)) fits, unmarked bodies, rows) (all_back bodies [] 1 rule h)

@@ -1,5 +1,6 @@
 -- The records that a reader has reached are the first of those of the text.
-use Rattle.std.proofs.Common.{◌≡◌, ◌∙◌, ◌≤◌, ◌+◌, ◌-◌, ◌⊎◌, ℕ, suc, zero, Bool, true, false, List, [], ◌∷◌, ◌++◌, length, Option, Some, None, if◌then◌else◌, refl, sym, ap, arith, inl, inr, zero-add}
+use Rattle.std.proofs.Common.{◌≡◌, ◌∙◌, ◌≤◌, ◌+◌, ◌-◌, ◌⊎◌, ℕ, suc, zero, Bool, true, false, List, [], ◌∷◌, ◌++◌, length, Option, Some, None, if◌then◌else◌}
+use Rattle.std.proofs.Common.{refl, sym, ap, arith, inl, inr, zero-add}
 use Rattle.std.proofs.lemmas.List.{append-nil}
 use Rattle.csv.specs.Machine.{Read, next_record, step, is_end, fields_after, field_after, ends_at_end}
 use Rattle.csv.specs.Reading.{Reached, records, records_from, strip_bom, is_bom}
@@ -22,7 +23,8 @@ left_is q p e =
     (ap (λ (r : Read). r.1) (sym same), ap (λ (r : Read). r.2) (sym same))
 
 -- a record leaves no more than there was
-no_longer : (cfg : Config) (s : State) (fields : List (List ℕ)) (field xs : List ℕ) (p : Read) → next_record cfg s fields field xs ≡ Some p → length p.2 ≤ length xs
+no_longer : (cfg : Config) (s : State) (fields : List (List ℕ)) (field xs : List ℕ) (p : Read) → next_record cfg s fields field xs ≡ Some p
+    → length p.2 ≤ length xs
 unfolding next_record
 no_longer cfg s fields field [] p e = elim (split_if (ends_at_end s) _ _ p e) [
   | inl h ↦ rw ((left_is _ p h).1) (omega arith)
@@ -30,7 +32,8 @@ no_longer cfg s fields field [] p e = elim (split_if (ends_at_end s) _ _ p e) [
 ]
 no_longer cfg s fields field (c ∷ rest) p e = elim (split_if (is_end (step cfg s c).1) _ _ p e) [
   | inl h ↦ rw ((left_is _ p h).1) (omega arith)
-  | inr h ↦ let less = no_longer cfg (step cfg s c).0 (fields_after (step cfg s c).1 fields field) (field_after (step cfg s c).1 c field) rest p h in omega arith
+  | inr h ↦ let less = no_longer cfg (step cfg s c).0 (fields_after (step cfg s c).1 fields field) (field_after (step cfg s c).1 c field) rest p h in omega
+      arith
 ]
 
 -- a record takes at least one byte of a text that has one

@@ -22,7 +22,8 @@ bodies_after-append (r ∷ rs) more n start bodies e =
     rw sum (followed _ (bodies_after (rs ++ more) (n + 1)) (with_record n start r) bodies _ (λ b here. bodies_after-append rs more (n + 1) b bodies here) e)
 
 -- one more record that is accepted
-pub accepted_more : (rows : List (List (List ℕ))) (fields : List (List ℕ)) (bodies new : List Body) (number : ℕ) → bodies_after rows 1 [] ≡ Ok bodies → number ≡ length rows + 1
+pub accepted_more : (rows : List (List (List ℕ))) (fields : List (List ℕ)) (bodies new : List Body) (number : ℕ) → bodies_after rows 1 [] ≡ Ok bodies
+    → number ≡ length rows + 1
     → with_record number bodies fields ≡ Ok new → bodies_after (rows ++ fields ∷ []) 1 [] ≡ Ok new
 unfolding bodies_after
 accepted_more rows fields bodies new number e count w =
@@ -30,7 +31,8 @@ accepted_more rows fields bodies new number e count w =
     rw (bodies_after-append rows (fields ∷ []) 1 [] bodies e, at, w) refl
 
 -- a record that has a fault, whatever comes after it
-pub refused_at : (all rows more : List (List (List ℕ))) (fields : List (List ℕ)) (bodies : List Body) (number : ℕ) (f : SceneFault) → all ≡ rows ++ fields ∷ [] ++ more → bodies_after rows 1 [] ≡ Ok bodies
+pub refused_at : (all rows more : List (List (List ℕ))) (fields : List (List ℕ)) (bodies : List Body) (number : ℕ) (f : SceneFault)
+    → all ≡ rows ++ fields ∷ [] ++ more → bodies_after rows 1 [] ≡ Ok bodies
     → number ≡ length rows + 1 → with_record number bodies fields ≡ Err f → bodies_after all 1 [] ≡ Err f
 unfolding bodies_after
 refused_at all rows more fields bodies number f whole e count w =

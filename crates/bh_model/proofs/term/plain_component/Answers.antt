@@ -9,8 +9,10 @@ use Rattle.bh_model.proofs.term.plain_component.Goals as goal
 pub returns : goal.returns
 unfolding component
 returns c =
-    let way : to_z w128 (of_z w128 (to_z w128 (of_z w128 c.from.result) -ℤ to_z w128 (of_z w128 c.from-2.result))) ≡ pos c.args.to -ℤ pos c.args.from = omega (arith, ints) in
+    let way : to_z w128 (of_z w128 (to_z w128 (of_z w128 c.from.result) -ℤ to_z w128 (of_z w128 c.from-2.result))) ≡ pos c.args.to -ℤ pos c.args.from = omega
+    (arith, ints) in
     stays c.trunc_div.result c.trunc_div.type_inv ∙ c.trunc_div.ensures
-    ∙ ap (λ z. quotient (to_z w128 (of_z w128 (z *ℤ to_z w128 (of_z w128 (to_z w128 (of_z w128 c.from.result) -ℤ to_z w128 (of_z w128 c.from-2.result)))))) c.args.divisor) (cast_up c.args.scale (omega arith))
+    ∙ ap (λ z. quotient (to_z w128 (of_z w128 (z *ℤ to_z w128 (of_z w128 (to_z w128 (of_z w128 c.from.result) -ℤ to_z w128 (of_z w128 c.from-2.result))))))
+    c.args.divisor) (cast_up c.args.scale (omega arith))
     ∙ ap (λ z. quotient (to_z w128 (of_z w128 (pos c.args.scale *ℤ z))) c.args.divisor) way
     ∙ ap (λ z. quotient z c.args.divisor) (dividend_exact c.args.scale c.args.from c.args.to (omega arith) (omega arith) (omega arith))

@@ -13,8 +13,10 @@ returns c =
     let to : Site = record { x = c.to.inside.x; y = c.to.inside.y; z = c.to.inside.z } in
     let start : squared_distance c.args.from c.args.to ≡ squared_distance from to =
     ap (λ s. squared_distance s c.args.to) (sym c.from-5.view_is) ∙ ap (λ s. squared_distance from s) (sym c.to.view_is) in
-    ap (λ x. one_pull x (to_z w128 (of_z w128 c.plain_component-2.result)) (to_z w128 (of_z w128 c.plain_component-3.result))) (stays c.plain_component.result c.plain_component.type_inv)
-    ∙ ap (λ y. one_pull c.plain_component.result y (to_z w128 (of_z w128 c.plain_component-3.result))) (stays c.plain_component-2.result c.plain_component-2.type_inv)
+    ap (λ x. one_pull x (to_z w128 (of_z w128 c.plain_component-2.result)) (to_z w128 (of_z w128 c.plain_component-3.result)))
+    (stays c.plain_component.result c.plain_component.type_inv)
+    ∙ ap (λ y. one_pull c.plain_component.result y (to_z w128 (of_z w128 c.plain_component-3.result)))
+    (stays c.plain_component-2.result c.plain_component-2.type_inv)
     ∙ ap (λ z. one_pull c.plain_component.result c.plain_component-2.result z) (stays c.plain_component-3.result c.plain_component-3.type_inv)
     ∙ term-from law c.args.mass from to (c.from-3.result * c.from-4.result) c.from.result c.from-2.result
     c.plain_component.result c.plain_component-2.result c.plain_component-3.result

@@ -3,25 +3,29 @@ use Rattle.octant_code.specs.Points.{site_at}
 use Rattle.bh_model.specs.Moments.{FitsWords, Matter, matter_by, moment}
 use Rattle.bh_model.specs.Trees.{in_octant, octree_from}
 use Rattle.bh_model.specs.declared.moment.Moment.{Moment}
-use Rattle.bh_plain.proofs.ListMoments.{fits_front, fits_one, moment_of_empty, moment_of_single, moment_of_split, moment_step, moment_upto, moment_upto-none, octant_moments}
+use Rattle.bh_plain.proofs.ListMoments.{fits_front, fits_one, moment_of_empty, moment_of_single, moment_of_split, moment_step, moment_upto, moment_upto-none}
+use Rattle.bh_plain.proofs.ListMoments.{octant_moments}
 use Rattle.bh_model.proofs.Splits.{octants_within, list_is_empty, list_has_some}
 use Rattle.bh_plain.proofs.moments.+moment_of_part.Goals as goal
 
 pub returns-then-bodies-eq1 : goal.returns-then-bodies-eq1
 returns-then-bodies-eq1 t c =
     c.moment_of_body.ensures
-    ∙ sym (moment_of_single (matter_by c.args.masses.now c.args.points.now) (λ n. get_or c.args.costs.now n 0) (21 - c.args.level) c.args.level c.args.bodies.now c.if-bodies-eq1.true)
+    ∙ sym (moment_of_single (matter_by c.args.masses.now c.args.points.now) (λ n. get_or c.args.costs.now n 0) (21 - c.args.level) c.args.level
+    c.args.bodies.now c.if-bodies-eq1.true)
 
 pub returns-then-is_empty : goal.returns-then-is_empty
 returns-then-is_empty t c =
     let why : (length c.args.bodies.now ≡ 0) ⊎ (c.args.level ≡ 21) =
     elim c.then-is_empty.either [ inl e ↦ inl (list_is_empty (length c.args.bodies.now) c.is_empty.result c.is_empty.ensures e) | inr e ↦ inr e.1 ] in
     c.none-sum.ensures
-    ∙ sym (moment_of_empty (matter_by c.args.masses.now c.args.points.now) (λ n. get_or c.args.costs.now n 0) c.args.level c.args.bodies.now c.if-bodies-eq1.false why)
+    ∙ sym (moment_of_empty (matter_by c.args.masses.now c.args.points.now) (λ n. get_or c.args.costs.now n 0) c.args.level c.args.bodies.now
+    c.if-bodies-eq1.false why)
 
 pub loop-k-init : goal.loop-k-init
 loop-k-init t c =
-    c.none-sum.ensures ∙ moment_upto-none (octant_moments (matter_by c.args.masses.now c.args.points.now) (λ n. get_or c.args.costs.now n 0) c.args.level c.args.bodies.now)
+    c.none-sum.ensures ∙ moment_upto-none
+    (octant_moments (matter_by c.args.masses.now c.args.points.now) (λ n. get_or c.args.costs.now n 0) c.args.level c.args.bodies.now)
 
 pub moment_of_part-requires : goal.moment_of_part-requires
 moment_of_part-requires t c =

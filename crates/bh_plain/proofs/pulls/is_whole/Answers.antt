@@ -9,4 +9,5 @@ returns-then-key_at-key c = whole_inside c.args.law.now c.args.level c.args.key 
 pub returns : goal.returns
 returns c =
     c.is_far.ensures
-    ∙ whole_outside c.args.law.now c.args.level c.args.key c.args.from c.args.to c.requires (λ (e : key_of c.args.from c.args.level ≡ c.args.key). c.if-key_at-key.false (c.key_at.ensures ∙ e))
+    ∙ whole_outside c.args.law.now c.args.level c.args.key c.args.from c.args.to c.requires
+    (λ (e : key_of c.args.from c.args.level ≡ c.args.key). c.if-key_at-key.false (c.key_at.ensures ∙ e))

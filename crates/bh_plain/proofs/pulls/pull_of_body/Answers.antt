@@ -10,7 +10,8 @@ returns-then-j-n c = c.none.ensures ∙ sym (pull-own c.args.law.now (matter_by 
 
 pub plain_term-requires-clause-apart : goal.plain_term-requires-clause-apart
 plain_term-requires-clause-apart c =
-    apart_same c.at-from.result c.at-to.result (site_at c.args.points.now c.args.n) (site_at c.args.points.now c.args.j) _ c.at-from.ensures.value c.at-to.ensures.value
+    apart_same c.at-from.result c.at-to.result (site_at c.args.points.now c.args.n) (site_at c.args.points.now c.args.j) _ c.at-from.ensures.value
+    c.at-to.ensures.value
     ((points_apart c.args.masses.now c.args.points.now c.args.n c.len-count.ensures.rule c.requires.own).apart c.args.j c.requires.within c.if-j-n.false)
 
 pub returns : goal.returns

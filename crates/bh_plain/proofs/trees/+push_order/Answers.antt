@@ -7,7 +7,9 @@ use Rattle.bh_plain.proofs.trees.+push_order.Goals as goal
 
 pub returns-then-bodies-eq1 : goal.returns-then-bodies-eq1
 returns-then-bodies-eq1 t c =
-    c.in_ok-push.ensures.items ∙ ap (λ y. c.args.out.now.items ++ y) (sym (order_of_single (site_at c.args.points.now) (21 - c.args.level) c.args.level c.args.bodies.now c.if-bodies-eq1.true))
+    c.in_ok-push.ensures.items
+    ∙ ap (λ y. c.args.out.now.items ++ y)
+    (sym (order_of_single (site_at c.args.points.now) (21 - c.args.level) c.args.level c.args.bodies.now c.if-bodies-eq1.true))
 
 pub returns-then-is_empty : goal.returns-then-is_empty
 returns-then-is_empty t c =
@@ -18,14 +20,22 @@ returns-then-is_empty t c =
 
 pub push_order-requires : goal.push_order-requires
 push_order-requires t c =
-    let part : c.deref.result.now ≡ in_octant (site_at c.args.points.now) c.args.level c.loop-k.k c.args.bodies.now = c.deref.ensures.value ∙ c.in_ok-part.ensures in
-    (omega arith, (octants_within c.args.points.now c.args.level c.loop-k.k c.args.bodies.now c.deref.result.now (length c.args.points.now) part c.requires.within, omega arith))
+    let part : c.deref.result.now ≡ in_octant (site_at c.args.points.now) c.args.level c.loop-k.k c.args.bodies.now = c.deref.ensures.value
+    ∙ c.in_ok-part.ensures in (
+      omega arith,
+      (
+        octants_within c.args.points.now c.args.level c.loop-k.k c.args.bodies.now c.deref.result.now (length c.args.points.now) part
+            c.requires.within,
+        omega arith,
+      ),
+    )
 
 pub loop-k-preserved : goal.loop-k-preserved
 loop-k-preserved t c =
     let site = site_at c.args.points.now in
     let part : c.deref.result.now ≡ in_octant site c.args.level c.loop-k.k c.args.bodies.now = c.deref.ensures.value ∙ c.in_ok-part.ensures in
-    joins_more c.args.out.now.items c.loop-k.out.items c.push_order.new.out.items (octant_orders site c.args.level c.args.bodies.now) c.loop-k.k c.loop-k.invariant
+    joins_more c.args.out.now.items c.loop-k.out.items c.push_order.new.out.items (octant_orders site c.args.level c.args.bodies.now) c.loop-k.k
+    c.loop-k.invariant
     (c.in_ok-push_order.ensures ∙ ap (λ y. c.loop-k.out.items ++ order (octree_from site (21 - (c.args.level + 1)) (c.args.level + 1) y)) part)
 
 pub returns : goal.returns

@@ -16,12 +16,15 @@ loop-n-preserved c =
     record {
       before = omega (arith, sum_by_more cost c.args.order.now c.loop-n.n-index 0 inside, c.loop-n.invariant.before, c.from-before.ensures);
       zone =
-          ap (λ y. c.push_if.new.out.items ++ zone_from cost c.args.workers whole (c.loop-n.before + y) (drop (c.loop-n.n-index + 1) c.args.order.now) c.args.w) c.from-before.ensures
-          ∙ zone_more cost c.args.workers whole c.loop-n.before c.args.order.now c.args.w c.loop-n.n-index c.loop-n.zone.items c.push_if.new.out.items _ inside put c.loop-n.invariant.zone;
+          ap (λ y. c.push_if.new.out.items ++ zone_from cost c.args.workers whole (c.loop-n.before + y) (drop (c.loop-n.n-index + 1) c.args.order.now)
+          c.args.w) c.from-before.ensures
+          ∙ zone_more cost c.args.workers whole c.loop-n.before c.args.order.now c.args.w c.loop-n.n-index c.loop-n.zone.items c.push_if.new.out.items _
+          inside put c.loop-n.invariant.zone;
     }
 
 pub returns : goal.returns
 returns c =
     let cost : ℕ → ℕ = λ m. get_or c.args.costs.now m 0 in
-    zone_done cost c.args.workers c.cost_of_list-whole.result c.loop-n.before c.args.order.now c.args.w c.loop-n.n-index c.loop-n.zone.items _ (omega arith) c.loop-n.invariant.zone
+    zone_done cost c.args.workers c.cost_of_list-whole.result c.loop-n.before c.args.order.now c.args.w c.loop-n.n-index c.loop-n.zone.items _ (omega arith)
+    c.loop-n.invariant.zone
     ∙ ap (λ y. zone_from cost c.args.workers y 0 c.args.order.now c.args.w) c.cost_of_list-whole.ensures.value

@@ -24,5 +24,8 @@ loop-byte-preserved c =
     let digit = digit_at c.args.bytes.now i c.loop-byte-test.true c.requires.digits in
     let low = digit_low (get_or c.args.bytes.now i 0) digit in
     let small = digit_high (get_or c.args.bytes.now i 0) digit in
-    let value = value_more c.args.bytes.now i c.loop-byte-test.true low small in
-    (omega (arith, value, c.loop-byte.invariant.0, c.from.ensures), ten_more i c.loop-byte.value c.from.result c.loop-byte.invariant.1 (omega (arith, c.from.ensures, small)))
+    let value = value_more c.args.bytes.now i c.loop-byte-test.true low small in (
+      omega (arith, value, c.loop-byte.invariant.0, c.from.ensures),
+      ten_more i c.loop-byte.value c.from.result c.loop-byte.invariant.1
+          (omega (arith, c.from.ensures, small)),
+    )

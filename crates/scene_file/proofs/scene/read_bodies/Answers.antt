@@ -34,7 +34,8 @@ loop-number-preserved c =
     let here = c.in-Ok-true.ensures in
     let read = rw c.in-Ok-true.field-0-test at (here.reads inv.0 inv.1) in
     let fields = fields_of c.read_byte_record.new.row in
-    let more = rows-more (λ (s : Bor (List ℕ)). Some s.now) c.loop-number.reader c.read_byte_record.new.self fields default_config st.StartRecord (strip_bom c.args.bytes.now) inv.4 inv.6 inv.2 inv.5 inv.7 read in (
+    let more = rows-more (λ (s : Bor (List ℕ)). Some s.now) c.loop-number.reader c.read_byte_record.new.self fields default_config st.StartRecord
+    (strip_bom c.args.bytes.now) inv.4 inv.6 inv.2 inv.5 inv.7 read in (
       read.3 ∙ inv.0,
       inl (here.ready inv.0),
       read.2 ∙ inv.2,
@@ -52,7 +53,8 @@ returns-in-Err-add_record c =
     let inv = c.loop-number.invariant in
     let read = rw c.in-Ok-true.field-0-test at (c.in-Ok-true.ensures.reads inv.0 inv.1) in
     let fields = fields_of c.read_byte_record.new.row in
-    let more = rows-more (λ (s : Bor (List ℕ)). Some s.now) c.loop-number.reader c.read_byte_record.new.self fields default_config st.StartRecord (strip_bom c.args.bytes.now) inv.4 inv.6 inv.2 inv.5 inv.7 read in
+    let more = rows-more (λ (s : Bor (List ℕ)). Some s.now) c.loop-number.reader c.read_byte_record.new.self fields default_config st.StartRecord
+    (strip_bom c.args.bytes.now) inv.4 inv.6 inv.2 inv.5 inv.7 read in
     let whole = records_front default_config c.read_byte_record.new.self.state (strip_bom c.args.bytes.now) more.0 (inv.6 ++ fields ∷ []) more.2 in
     let all = records_of c.args.bytes.now in
     let rest = records_from default_config (length (strip_bom c.args.bytes.now) + 1 - length (inv.6 ++ fields ∷ [])) c.read_byte_record.new.self.state more.0 in

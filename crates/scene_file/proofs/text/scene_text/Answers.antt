@@ -15,7 +15,8 @@ loop-n-preserved c =
     let put = subst (λ b. c.push_body.new.text.items ≡ c.loop-n.text.items ++ body_text b) c.get.ensures.value c.in_ok-push_body.ensures in
     let text = text_more bodies n c.loop-n.text.items c.push_body.new.text.items within c.loop-n.invariant.0 put in
     let fits : c.get.result.mass < 2 ^ 32 = omega arith in
-    let here : IsInRanges (body_at bodies n) = in_ranges c.get.result (body_at bodies n) c.get.ensures.value (c.len-n-end.ensures.rule.massive n nobody within) fits c.get.ensures.inside in (
+    let here : IsInRanges (body_at bodies n) = in_ranges c.get.result (body_at bodies n) c.get.ensures.value
+    (c.len-n-end.ensures.rule.massive n nobody within) fits c.get.ensures.inside in (
       text,
       λ i before. elim (eq-or-lt_of_le (let h : i ≤ n = omega arith in h)) [ inl last ↦ rw last here | inr earlier ↦ c.loop-n.invariant.1 i earlier ],
     )

@@ -8,7 +8,8 @@ loop-self-preserved g c =
     let inv = c.loop-self.invariant in (
       record {
         done = inv.0.done ++ c.keep.new.self;
-        joins = next_piece _ inv.0.done c.loop-self.self c.loop-self.rest.now c.keep.new.self c.finish.new.self _ inv.0.joins c.keep.ensures c.in-Ok.ensures.empty;
+        joins = next_piece _ inv.0.done c.loop-self.self c.loop-self.rest.now c.keep.new.self c.finish.new.self _ inv.0.joins c.keep.ensures
+            c.in-Ok.ensures.empty;
         took = took_more _ _ _ _ _ inv.0.took c.in-Ok.ensures.text;
       },
       omega (arith, inv.1, c.in-Ok.ensures.cause.later),

@@ -21,5 +21,6 @@ loop-i-preserved c =
     let get : Site → Option ℕ = λ q. hash.get same_coordinates c.loop-i.seen q in
     let new : Site → Option ℕ = λ q. hash.get same_coordinates c.insert.new.self q in
     let none : get (site_at sites c.loop-i.i) ≡ None = ap get (sym here) ∙ sym c.in_default.ensures.value in
-    seen_more sites get new (same_coordinates (site_at sites c.loop-i.i)) c.loop-i.i c.loop-i.invariant none (same_coordinates_refl (site_at sites c.loop-i.i)) (same_coordinates_true (site_at sites c.loop-i.i))
+    seen_more sites get new (same_coordinates (site_at sites c.loop-i.i)) c.loop-i.i c.loop-i.invariant none
+    (same_coordinates_refl (site_at sites c.loop-i.i)) (same_coordinates_true (site_at sites c.loop-i.i))
     (λ q. c.in_ok-insert.ensures.updates.0 q ∙ ap (λ s. cond (same_coordinates s q) (Some c.loop-i.i) (get q)) here)
