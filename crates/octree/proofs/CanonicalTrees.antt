@@ -1,16 +1,15 @@
 -- What an octree is that is canonical at points.
-use Rattle.std.proofs.Common.{ℕ, zero, suc, ◌+◌, ◌-◌, ◌*◌, ◌^◌, ◌<◌, ◌≤◌, ◌≡◌, ◌↔◌, refl, sym, ◌∙◌, ap, subst, inl, inr, arith, Bool, true, List, [], ◌∷◌, eqb}
+use Rattle.std.proofs.Common.{ℕ, zero, suc, ◌+◌, ◌-◌, ◌*◌, ◌^◌, ◌<◌, ◌≤◌, ◌≡◌, ◌↔◌, refl, sym, ◌∙◌, ap, inl, inr, arith, Bool, true, List, [], ◌∷◌, eqb}
 use Rattle.std.specs.List.{filter}
 use Rattle.std.proofs.lemmas.Bool.{eq-eqb}
 use Rattle.octant_code.proofs.Keys.{level_of_key}
 use Rattle.octant_code.specs.Points.{site_at}
 use Rattle.octant_code.specs.Space.{Site, key_of}
 use Rattle.bh_model.specs.Bodies.{IsIn, NoneTwice}
-use Rattle.bh_model.specs.Trees.{Tree, octree_from, order}
+use Rattle.bh_model.specs.Trees.{octree_from, order}
 use Rattle.octree.proofs.Insertions.{base_positive, stands_of}
-use Rattle.octree.proofs.Subtrees.{bodies_of_tree, deep_enough, root_spot, spot_at}
-use Rattle.octree.specs.Spot.{IsSpot}
-use Rattle.octree.specs.Stored.{IsCanonical, IsStored, StandsWell, Stored, cells_of, root_word, tree_of}
+use Rattle.octree.proofs.Subtrees.{bodies_of_tree, deep_enough, root_spot}
+use Rattle.octree.specs.Stored.{IsCanonical, IsStored, Stored, cells_of, root_word, tree_of}
 use Rattle.tree_rule.proofs.Laws.{below_top, exact_of_stands_for, reads, stands_same, under_key, word_is}
 use Rattle.tree_rule.specs.Flat.{StandsFor, Top}
 use Rattle.tree_rule.specs.Standing.{WordsNameExactly}

@@ -1,4 +1,4 @@
-use Rattle.std.proofs.Common.{ℕ, ◌≡◌, length, vec_len, refl, arith}
+use Rattle.std.proofs.Common.{◌≡◌, length, vec_len, refl, arith}
 use Rattle.octree.proofs.Chains.{added}
 use Rattle.octree.proofs.Words.{at_longer}
 use Rattle.octree.proofs.chain.add_cell.Goals as goal

@@ -1,4 +1,4 @@
-use Rattle.std.proofs.Common.{arith, sym}
+use Rattle.std.proofs.Common.{arith}
 use Rattle.octree.proofs.Texts.{text_none, text_one, texts_end, texts_fail, texts_front, texts_next, texts_start}
 use Rattle.octree.specs.Spot.{child_under}
 use Rattle.octree.proofs.text.+put_tree.Goals as goal
