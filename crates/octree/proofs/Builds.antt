@@ -63,7 +63,8 @@ under_whole s base e = (0, omega arith, e ∙ sym (key-zero s))
 
 -- where all points were inserted, the tree is the canonical octree of their numbers
 pub built_tree : (sites : List Site) (o : Stored) (i : ℕ) → IsStored o → IsBuilt sites o i → i ≡ length sites
-    → ((bodies : List ℕ) → NoneTwice bodies → ((m : ℕ) → IsIn (order (tree_of o)) m ↔ IsIn bodies m) → tree_of o ≡ octree_from (site_at sites) (21 - o.level) o.level bodies)
+    → ((bodies : List ℕ) → NoneTwice bodies → ((m : ℕ) → IsIn (order (tree_of o)) m ↔ IsIn bodies m)
+    → tree_of o ≡ octree_from (site_at sites) (21 - o.level) o.level bodies)
     → tree_of o ≡ octree (site_at sites) (numbers (length sites))
 built_tree sites o i stored h e tree =
     let all = numbers (length sites) in

@@ -1,5 +1,5 @@
 -- The steps of building the cells that part two bodies.
-use Rattle.std.proofs.Common.{ℕ, ◌+◌, ◌*◌, ◌<◌, ◌≤◌, ◌≡◌, ◌≢◌, ◌⊎◌, suc, refl, sym, ◌∙◌, ap, subst, inl, inr, arith, List, length, slice_set, add-one}
+use Rattle.std.proofs.Common.{ℕ, ◌+◌, ◌*◌, ◌<◌, ◌≡◌, ◌≢◌, ◌⊎◌, sym, ◌∙◌, ap, subst, inl, inr, arith, List, length, slice_set, add-one}
 use Rattle.octant_code.specs.Space.{Site, key_of, octant_of}
 use Rattle.octant_code.specs.Points.{site_at, ArePoints}
 use Rattle.octant_code.proofs.Keys.{key-suc, octant-small}
@@ -40,7 +40,8 @@ pair_cube sites x n key level pair =
     (pair_shares (site_at sites) x n level (omega (arith, pair.shallow)) pair.differ (sym pair.x_under ∙ pair.n_under))
 
 -- the words of one more cell with its key
-pub added : (words longer : List ℕ) (cell key p : ℕ) → length words ≡ word_count cell → length longer ≡ word_count (cell + 1) → at_of longer ≡ at_of words → p ≡ key_place cell
+pub added : (words longer : List ℕ) (cell key p : ℕ) → length words ≡ word_count cell → length longer ≡ word_count (cell + 1) → at_of longer ≡ at_of words
+    → p ≡ key_place cell
     → AreUnlocked words cell → IsCellAdded words (slice_set longer p key) cell key
 added words longer cell key p len more same is_p unlocked =
     let other : (i : ℕ) → i ≢ p → at_of (slice_set longer p key) i ≡ at_of words i = λ i d. at_set_other longer p i key d ∙ ap (λ (at : ℕ → ℕ). at i) same in
@@ -59,7 +60,8 @@ pub linked : (sites : List Site) (words longer after : List ℕ) (used to a key 
     → StandsFor (site_at sites) (at_of after) (cell_word (used + 1)) (8 * key + a) (IsTaken (used + 1) to) (IsOneOf x n)
     → StandsFor (site_at sites) (at_of after) (cell_word used) key (IsTaken used to) (IsOneOf x n)
 linked sites words longer after used to a key level x n q value cell is_q small is_value kept next pair sub =
-    let key_now : at_of after (key_place used) ≡ key = kept (key_place used) (omega arith) ∙ at_set_other longer q (key_place used) value (λ e. omega arith) ∙ cell.keyed in
+    let key_now : at_of after (key_place used) ≡ key = kept (key_place used) (omega arith) ∙ at_set_other longer q (key_place used) value (λ e. omega arith)
+    ∙ cell.keyed in
     let kid_now : at_of after (child_place used a) ≡ cell_word (used + 1) =
     kept (child_place used a) (omega arith) ∙ at_set_same longer q (child_place used a) value (sym is_q) (omega (arith, cell.len)) ∙ is_value in
     let others : (j : ℕ) → j < 8 → j ≢ a → at_of after (child_place used j) ≡ 0 = λ j l h.
@@ -88,7 +90,8 @@ forked sites words longer used a b key level x n q r v w cell is_q is_r is_v is_
     let key_now : at_of last (key_place used) ≡ key =
     at_set_other first r (key_place used) w (λ h. omega arith) ∙ at_set_other longer q (key_place used) v (λ h. omega arith) ∙ cell.keyed in
     let a_now : at_of last (child_place used a) ≡ body_word x =
-    at_set_other first r (child_place used a) w (λ h. apart (omega arith)) ∙ at_set_same longer q (child_place used a) v (sym is_q) (omega (arith, cell.len)) ∙ is_v in
+    at_set_other first r (child_place used a) w (λ h. apart (omega arith)) ∙ at_set_same longer q (child_place used a) v (sym is_q) (omega (arith, cell.len))
+    ∙ is_v in
     let b_now : at_of last (child_place used b) ≡ body_word n = at_set_same first r (child_place used b) w (sym is_r) (omega (arith, len)) ∙ is_w in
     let others : (j : ℕ) → j < 8 → j ≢ a → j ≢ b → at_of last (child_place used j) ≡ 0 = λ j l f g.
     at_set_other first r (child_place used j) w (λ h. g (omega arith)) ∙ at_set_other longer q (child_place used j) v (λ h. f (omega arith)) ∙ cell.empty j l in

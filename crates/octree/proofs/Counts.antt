@@ -6,7 +6,8 @@ use Rattle.bh_model.proofs.Trees.{keys-body, keys-cell, keys-empty}
 use Rattle.bh_model.specs.Trees.{Empty, Tree, cell_count, cell_keys_from}
 use Rattle.tree_rule.specs.Sound.{HereAs, IsReachedAs}
 use Rattle.tree_rule.specs.Words.{at_of, cell_word, cells_from, child_place, tree_from}
-use Rattle.tree_rule.proofs.Laws.{ACell, NoBody, OneBody, WordIs, cells-body, cells-cell, cells-empty, cells_once, cells_read, few_below, forget, tree-body, tree-cell, tree-empty, word_is}
+use Rattle.tree_rule.proofs.Laws.{ACell, NoBody, OneBody, WordIs, cells-body, cells-cell, cells-empty, cells_once, cells_read, few_below, forget, tree-body}
+use Rattle.tree_rule.proofs.Laws.{tree-cell, tree-empty, word_is}
 use Rattle.octree.specs.Stored.{IsStored, Stored, cells_of, tree_of}
 
 -- read to no depth every word is empty
@@ -52,7 +53,8 @@ count_of_tree at (suc below) key w (ACell c e) =
     ap length (cells-cell at below w c e)
     ∙ ap suc (joined_lengths (λ k. cells_from at below (at (child_place c k))) (λ k. cell_keys_from (f k) (8 * key + k)) 8
     (λ k l. count_of_tree at below (8 * key + k) (at (child_place c k)) (word_is (at (child_place c k)))))
-    ∙ ap length (sym (keys-cell f key)) ∙ ap (λ t. length (cell_keys_from t key)) (sym (tree-cell at below c)) ∙ ap (λ v. length (cell_keys_from (tree_from at (suc below) v) key)) (sym e)
+    ∙ ap length (sym (keys-cell f key)) ∙ ap (λ t. length (cell_keys_from t key)) (sym (tree-cell at below c))
+    ∙ ap (λ v. length (cell_keys_from (tree_from at (suc below) v) key)) (sym e)
 
 -- an octree has as many cells as its tree
 pub cells_of_tree : (o : Stored) → length (cells_of o) ≡ cell_count (tree_of o)

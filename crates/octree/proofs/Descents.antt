@@ -16,7 +16,8 @@ pub record StepsDown (words : List ℕ) (base : ℕ) (s : Site) (place level c :
   pub there : IsPlaceOf (at_of words) 0 base (HasCell words) (key_of s (level + 1)) (3 + 10 * c + octant_of s level)
 
 -- a word at a place is read
-pub place_read : (words : List ℕ) (base key place : ℕ) → IsPlaceOf (at_of words) 0 base (HasCell words) key place → IsReached (at_of words) (at_of words 0) (at_of words place)
+pub place_read : (words : List ℕ) (base key place : ℕ) → IsPlaceOf (at_of words) 0 base (HasCell words) key place
+    → IsReached (at_of words) (at_of words 0) (at_of words place)
 place_read words base key place (TopPlace k e) = Here (at_of words place) (ap (at_of words) e)
 place_read words base key place (ChildPlace c j p l k e) = Below c j (at_of words place) p l (ap (at_of words) e)
 
@@ -36,7 +37,8 @@ stepped sites words n from place level w c h way read shape =
     let base : ℕ = key_of s from in
     let is_cell : at_of words place ≡ cell_word c = ◌∙◌ {a = at_of words place} (sym (get_or_read words place w way.inside read 0)) shape in
     let x : IsWordOf (at_of words) (at_of words 0) base (HasCell words) (key_of s level) (cell_word c) =
-    subst (λ (y : ℕ). IsWordOf (at_of words) (at_of words 0) base (HasCell words) (key_of s level) y) is_cell (word_at_place (at_of words) 0 base (HasCell words) (key_of s level) place way.there) in
+    subst (λ (y : ℕ). IsWordOf (at_of words) (at_of words 0) base (HasCell words) (key_of s level) y) is_cell
+    (word_at_place (at_of words) 0 base (HasCell words) (key_of s level) place way.there) in
     let f = h.names_cell (key_of s level) c x in
     let t = sharer (h.shared c f.0) in
     let l : t.level ≡ level = same_level (site_at sites t.one) s t.level level (sym t.one_under ∙ f.1) in

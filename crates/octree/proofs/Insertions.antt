@@ -8,7 +8,8 @@ use Rattle.octree.proofs.Locks.{unlocked_at_place}
 use Rattle.octree.proofs.Words.{at_set_other, at_set_same, set_length}
 use Rattle.octree.specs.Chain.{ArePair, IsOneOf, IsTaken}
 use Rattle.octree.specs.Stored.{IsCanonical, IsInserted, IsStored, StandsWell, Stored, word_count}
-use Rattle.tree_rule.proofs.Laws.{Nothing, Only, bodies_of_stands, body_reached, cell_reached, graft, key_apart, sound_of_stands, stands_body, stands_moved, stands_of_sound, stands_same, word_at_place}
+use Rattle.tree_rule.proofs.Laws.{Nothing, Only, bodies_of_stands, body_reached, cell_reached, graft, key_apart, sound_of_stands, stands_body, stands_moved}
+use Rattle.tree_rule.proofs.Laws.{stands_of_sound, stands_same, word_at_place}
 use Rattle.tree_rule.specs.Flat.{ChildPlace, Either, IsPlaceOf, IsWordOf, StandsFor, TopPlace}
 use Rattle.tree_rule.specs.Locks.{AreUnlocked}
 use Rattle.tree_rule.specs.Words.{HasBody, HasCell, at_of, body_word, cell_word, child_place, key_place}
@@ -25,7 +26,8 @@ pub record CanInsert (sites : List Site) (o : Stored) (n : ℕ) : Type 0 where
   pub fresh : HasBody o.words n → ⊥
 
 -- what an insertion may rest on, where `before` is the octree and `o` are its fields
-pub can_insert : (sites : List Site) (before o : Stored) (n : ℕ) → o ≡ before → IsStored o → ArePoints sites → n < length sites → IsUnder before.base (site_at sites n)
+pub can_insert : (sites : List Site) (before o : Stored) (n : ℕ) → o ≡ before → IsStored o → ArePoints sites → n < length sites
+    → IsUnder before.base (site_at sites n)
     → IsCanonical sites before → (HasBody before.words n → ⊥) → CanInsert sites o n
 can_insert sites before o n e stored rule n_in under canonical fresh = record {
   stored = stored;
@@ -92,7 +94,8 @@ record IsPart (sites : List Site) (o : Stored) (next : List ℕ) (Q M : ℕ → 
   only : (m : ℕ) → M m → HasBody o.words m ⊎ (m ≡ n)
   joins : M n
 
-module _ (sites : List Site) (o : Stored) (next : List ℕ) (Q M : ℕ → Type 0) (n place level to v : ℕ) (h : CanInsert sites o n) (part : IsPart sites o next Q M n place level to v) where
+module _ (sites : List Site) (o : Stored) (next : List ℕ) (Q M : ℕ → Type 0) (n place level to v : ℕ) (h : CanInsert sites o n)
+    (part : IsPart sites o next Q M n place level to v) where
   site : ℕ → Site
   site = site_at sites
 
@@ -133,7 +136,8 @@ module _ (sites : List Site) (o : Stored) (next : List ℕ) (Q M : ℕ → Type 
   both =
       let same : at_of next place ≡ at_of o.words place = kept place place_used in
       let inside : place < length next = omega (arith, place_used, part.appended.len, part.appended.more) in
-      graft (site_at sites) (at_of next) (at_of after) 0 o.base (HasCell o.words) Q (HasBody o.words) M (HasBody o.words) M (key_of (site_at sites n) level) place v (record {
+      graft (site_at sites) (at_of next) (at_of after) 0 o.base (HasCell o.words) Q (HasBody o.words) M (HasBody o.words) M (key_of (site_at sites n) level)
+      place v (record {
         before = longer;
         below = stands_moved (site_at sites) (at_of next) (at_of after) v (key_of (site_at sites n) level) Q M
             (λ c p. let new = part.cells_new c p in other (key_place c) (λ e. omega (arith, new.0, place_used)))
@@ -151,7 +155,8 @@ module _ (sites : List Site) (o : Stored) (next : List ℕ) (Q M : ℕ → Type 
   bodies_now = body_reached (site_at sites) (at_of after) (at_of after 0) o.base (Either (HasCell o.words) Q) (Either (HasBody o.words) M) both
 
   stands_after : StandsWell sites after o.base
-  stands_after = stands_same (site_at sites) (at_of after) (at_of after 0) o.base (Either (HasCell o.words) Q) (HasCell after) (Either (HasBody o.words) M) (HasBody after) cells_now bodies_now both
+  stands_after = stands_same (site_at sites) (at_of after) (at_of after 0) o.base (Either (HasCell o.words) Q) (HasCell after) (Either (HasBody o.words) M)
+      (HasBody after) cells_now bodies_now both
 
   -- its bodies are those that the octree had, and the new one
   body_after : (m : ℕ) → HasBody after m → HasBody o.words m ⊎ (m ≡ n)
@@ -169,7 +174,10 @@ module _ (sites : List Site) (o : Stored) (next : List ℕ) (Q M : ℕ → Type 
       base_high = h.stored.base_high;
       sound = sound_of_stands (site_at sites) (at_of after) (at_of after 0) o.base (HasCell after) (HasBody after) stands_after;
       unlocked = unlocked_at_place next to (at_of o.words) o.base (HasCell o.words) (key_of (site_at sites n) level) place v part.appended.unlocked below_base;
-      cells_used = λ c p. elim ((cells_now c).1 p) [ inl had ↦ omega (arith, h.stored.cells_used c had, part.appended.more) | inr new ↦ (part.cells_new c new).1 ];
+      cells_used = λ c p. elim ((cells_now c).1 p) [
+        | inl had ↦ omega (arith, h.stored.cells_used c had, part.appended.more)
+        | inr new ↦ (part.cells_new c new).1
+      ];
       bodies_small = λ m b. elim (body_after m b) [ inl had ↦ h.stored.bodies_small m had | inr e ↦ omega (arith, e, h.n_in, h.rule.few) ];
     };
     canonical = record {
@@ -180,7 +188,8 @@ module _ (sites : List Site) (o : Stored) (next : List ℕ) (Q M : ℕ → Type 
       bodies = λ m. (body_after m, (λ b. (bodies_now m).0 (elim b [ inl had ↦ inl had | inr e ↦ inr (subst M (sym e) part.joins) ])));
       cells_stay = λ c p. (cells_now c).0 (inl p);
       keys_stay = λ c p.
-          other (key_place c) (key_apart (at_of o.words) 0 o.base (HasCell o.words) (key_of (site_at sites n) level) place c (omega arith) below_base) ∙ kept (key_place c) (omega (arith, h.stored.cells_used c p));
+          other (key_place c) (key_apart (at_of o.words) 0 o.base (HasCell o.words) (key_of (site_at sites n) level) place c (omega arith) below_base)
+          ∙ kept (key_place c) (omega (arith, h.stored.cells_used c p));
       base_stays = refl;
       held_stays = refl;
       used_more = part.appended.more;
@@ -189,13 +198,21 @@ module _ (sites : List Site) (o : Stored) (next : List ℕ) (Q M : ℕ → Type 
   }
 
 -- where the word is empty, the body takes its place
-pub empty_case : (sites : List Site) (o : Stored) (n place level v : ℕ) → CanInsert sites o n → IsPlaceIn sites o n (key_of (site_at sites n) o.level) level place
+pub empty_case : (sites : List Site) (o : Stored) (n place level v : ℕ) → CanInsert sites o n
+    → IsPlaceIn sites o n (key_of (site_at sites n) o.level) level place
     → place < length o.words → level ≤ 21 → at_of o.words place ≡ 0 → v ≡ body_word n → IsDone sites n o (with_words o (slice_set o.words place v) o.used)
 empty_case sites o n place level v h there inside shallow empty is =
     done sites o o.words Nothing (Only n) n place level o.used v h (record {
       there = there;
       inside = inside;
-      appended = record { len = h.stored.long; kept = λ i l. refl; unlocked = h.stored.unlocked; more = omega arith; few = omega arith; fits = h.stored.used_held };
+      appended = record {
+        len = h.stored.long;
+        kept = λ i l. refl;
+        unlocked = h.stored.unlocked;
+        more = omega arith;
+        few = omega arith;
+        fits = h.stored.used_held;
+      };
       stands = subst (λ (y : ℕ). StandsFor (site_at sites) (at_of o.words) y (key_of (site_at sites n) level) Nothing (Only n)) (sym is)
           (stands_body (site_at sites) (at_of o.words) (key_of (site_at sites n) level) n (Only n) (level, shallow, refl));
       cells_new = λ c p. absurd p;
@@ -212,10 +229,12 @@ body_there sites o n place level x h there body =
     let base : ℕ = key_of (site_at sites n) o.level in
     let key : ℕ = key_of (site_at sites n) level in
     (stands_now sites o n h).names_body key x
-    (subst (λ (y : ℕ). IsWordOf (at_of o.words) (at_of o.words 0) base (HasCell o.words) key y) body (word_at_place (at_of o.words) 0 base (HasCell o.words) key place there))
+    (subst (λ (y : ℕ). IsWordOf (at_of o.words) (at_of o.words 0) base (HasCell o.words) key y) body
+    (word_at_place (at_of o.words) 0 base (HasCell o.words) key place there))
 
 -- where the word names a body, that is another one of the cube
-pub body_case : (sites : List Site) (o : Stored) (n place level key x : ℕ) → CanInsert sites o n → IsPlaceIn sites o n (key_of (site_at sites n) o.level) level place
+pub body_case : (sites : List Site) (o : Stored) (n place level key x : ℕ) → CanInsert sites o n
+    → IsPlaceIn sites o n (key_of (site_at sites n) o.level) level place
     → at_of o.words place ≡ body_word x → level ≤ 21 → key ≡ key_of (site_at sites n) level → ArePair sites x n key level
 body_case sites o n place level key x h there body shallow is_key =
     let f = body_there sites o n place level x h there body in
@@ -233,7 +252,8 @@ body_case sites o n place level key x h there body shallow is_key =
     }
 
 -- and the cells that part the two take its place
-pub parted_case : (sites : List Site) (o : Stored) (next : List ℕ) (n place level x to v : ℕ) → CanInsert sites o n → IsPlaceIn sites o n (key_of (site_at sites n) o.level) level place
+pub parted_case : (sites : List Site) (o : Stored) (next : List ℕ) (n place level x to v : ℕ) → CanInsert sites o n
+    → IsPlaceIn sites o n (key_of (site_at sites n) o.level) level place
     → place < length o.words → at_of o.words place ≡ body_word x → IsAppended o next to
     → StandsFor (site_at sites) (at_of next) (cell_word o.used) (key_of (site_at sites n) level) (IsTaken o.used to) (IsOneOf x n) → v ≡ cell_word o.used
     → IsDone sites n o (with_words o (slice_set next place v) to)

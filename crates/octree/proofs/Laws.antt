@@ -12,7 +12,8 @@ pub top_body_inside : (s : Spot) (n : ℕ) → IsBodyAt s n → IsIn (order (tre
 top_body_inside s n at = body_in_order (tree_under s) n at.tree
 
 -- the bodies of a child are the subtree's
-pub child_bodies : (s cell child : Spot) (k n : ℕ) → IsCellAt s cell → IsChildOf cell k child → k < 8 → IsIn (order (tree_under child)) n → IsIn (order (tree_under s)) n
+pub child_bodies : (s cell child : Spot) (k n : ℕ) → IsCellAt s cell → IsChildOf cell k child → k < 8 → IsIn (order (tree_under child)) n
+    → IsIn (order (tree_under s)) n
 child_bodies s cell child k n at is small i =
     subst (λ (t : Tree). IsIn (order t) n) (sym at.tree)
     (child_in_order (child_under cell) k n small (subst (λ (t : Tree). IsIn (order t) n) is.tree i))

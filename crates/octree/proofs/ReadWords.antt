@@ -3,6 +3,7 @@ use Rattle.std.proofs.Common.{inl, inr, ℕ, ◌^◌, ◌<◌, ◌≤◌, ◌≡
 use Rattle.std.proofs.lemmas.Bool.{cases_lt}
 use Rattle.std.proofs.lemmas.List.{get_or-replicate, get_or_past, length-replicate, get_or_read}
 use Rattle.octree.specs.Stored.{IsStored, Stored}
+use Rattle.tree_rule.specs.declared.words.TheConstants.{MOST_CELLS}
 use Rattle.tree_rule.specs.Words.{lock_place}
 use Rattle.tree_rule.proofs.Laws.{ACell, NoBody, OneBody, forget, word_is}
 use Rattle.tree_rule.specs.Sound.{IsReachedAs, IsSound}
@@ -17,7 +18,8 @@ word_small o w h r = elim (word_is w) [
 ]
 
 -- a word that is read fits 33 bits
-pub read_small : (before o : Stored) (place x : ℕ) → o ≡ before → IsStored o → place < length o.words → IsReached (at_of before.words) (at_of before.words 0) (at_of before.words place)
+pub read_small : (before o : Stored) (place x : ℕ) → o ≡ before → IsStored o → place < length o.words
+    → IsReached (at_of before.words) (at_of before.words 0) (at_of before.words place)
     → x ≡ slice_index_or o.words place x → x < 2 ^ 33
 read_small before o place x v h l r e =
     let e0 : x ≡ at_of o.words place = get_or_read o.words place x l e 0 in
@@ -49,7 +51,8 @@ sound_blank at top base e =
     }
 
 -- three words of 0 are an empty octree
-pub empty_stored : (words : List ℕ) (cells : ℕ) → cells ≤ 1376256 → words ≡ replicate 3 0 → IsStored (record { words = words; base = 1; level = 0; used = 0; held = cells })
+pub empty_stored : (words : List ℕ) (cells : ℕ) → cells ≤ MOST_CELLS → words ≡ replicate 3 0
+    → IsStored (record { words = words; base = 1; level = 0; used = 0; held = cells })
 empty_stored words cells h e =
     let blank : (i : ℕ) → at_of words i ≡ 0 = λ i. ap (λ y. at_of y i) e ∙ at_blank 3 i in
     record {

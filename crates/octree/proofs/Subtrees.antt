@@ -1,5 +1,6 @@
 -- What is known of a word that is read on the way down from the root of an octree.
-use Rattle.std.proofs.Common.{ℕ, zero, suc, ◌+◌, ◌-◌, ◌*◌, ◌/◌, ◌^◌, ◌<◌, ◌≤◌, ◌≡◌, ◌⊎◌, ◌↔◌, List, [], ◌∷◌, refl, sym, ◌∙◌, ap, subst, arith, inl, inr, add-one}
+use Rattle.std.proofs.Common.{ℕ, zero, suc, ◌+◌, ◌-◌, ◌*◌, ◌^◌, ◌<◌, ◌≤◌, ◌≡◌, ◌⊎◌, ◌↔◌, List, [], ◌∷◌, refl, sym, ◌∙◌, ap, subst, arith, inl, inr}
+use Rattle.std.proofs.Common.{add-one}
 use Rattle.std.proofs.Math.Nat.{pow-suc}
 use Rattle.std.proofs.lemmas.Bool.{cases_lt}
 use Rattle.octant_code.proofs.Keys.{pow8-mono}
@@ -9,7 +10,8 @@ use Rattle.bh_model.proofs.Lists.{in_joined, joined_in}
 use Rattle.bh_model.proofs.Trees.{cell_of-same, order-body, order-cell, order-empty}
 use Rattle.bh_model.specs.Bodies.{IsIn}
 use Rattle.bh_model.specs.Trees.{Tree, cell_of, height, order}
-use Rattle.tree_rule.proofs.Laws.{ACell, Deeper, IsKeyBelow, NoBody, OneBody, Same, WordIs, child_in_child, comparable, forget, tree-body, tree-cell, tree-empty, word_is}
+use Rattle.tree_rule.proofs.Laws.{ACell, Deeper, IsKeyBelow, NoBody, OneBody, Same, WordIs, child_in_child, comparable, forget, tree-body, tree-cell}
+use Rattle.tree_rule.proofs.Laws.{tree-empty, word_is}
 use Rattle.tree_rule.specs.Sound.{BelowAs, HereAs, IsReachedAs}
 use Rattle.tree_rule.specs.Words.{Below, HasBody, HasCell, Here, IsReached, at_of, body_word, cell_word, child_place, tree_from}
 use Rattle.octree.specs.Stored.{IsStored, Stored, root_word, tree_of, tree_of_word}
@@ -23,7 +25,14 @@ spot_at o word = record { octree = o; word = word }
 
 -- the root is a spot
 unfoldable pub root_spot : (o : Stored) → IsStored o → IsSpot (spot_at o (root_word o))
-root_spot o stored = record { stored = stored; key = o.base; level = o.level; read = HereAs o.base (root_word o) refl refl; shallow = stored.shallow; low = stored.base_low }
+root_spot o stored = record {
+  stored = stored;
+  key = o.base;
+  level = o.level;
+  read = HereAs o.base (root_word o) refl refl;
+  shallow = stored.shallow;
+  low = stored.base_low;
+}
 
 -- the word of a spot is read
 spot_read : (s : Spot) (r : IsSpot s) → IsReached (at_of s.octree.words) (root_word s.octree) s.word
@@ -71,7 +80,8 @@ module _ (o : Stored) (w c : ℕ) (e : w ≡ cell_word c) (r : IsSpot (spot_at o
   }
 
 -- read deeper than there are levels left, a word has the same tree
-pub deep_enough : (o : Stored) (below w : ℕ) → WordIs w → (r : IsSpot (spot_at o w)) → 22 ≤ r.level + below → tree_from (at_of o.words) (suc below) w ≡ tree_from (at_of o.words) below w
+pub deep_enough : (o : Stored) (below w : ℕ) → WordIs w → (r : IsSpot (spot_at o w)) → 22 ≤ r.level + below
+    → tree_from (at_of o.words) (suc below) w ≡ tree_from (at_of o.words) below w
 unfolding child_spot
 deep_enough o zero w is r deep = absurd (omega (arith, r.shallow))
 deep_enough o (suc below) w (NoBody e) r deep = rw e (tree-empty (at_of o.words) (suc below) ∙ sym (tree-empty (at_of o.words) below))
@@ -84,7 +94,8 @@ deep_enough o (suc below) w (ACell c e) r deep =
     ∙ sym (ap (tree_from at (suc below)) e ∙ tree-cell at below c)
 
 -- the tree of a cell is the cell of its children's trees
-pub cell_tree : (o : Stored) (w c : ℕ) (e : w ≡ cell_word c) → IsSpot (spot_at o w) → tree_of_word o w ≡ cell_of (λ k. tree_of_word o (at_of o.words (child_place c k)))
+pub cell_tree : (o : Stored) (w c : ℕ) (e : w ≡ cell_word c) → IsSpot (spot_at o w)
+    → tree_of_word o w ≡ cell_of (λ k. tree_of_word o (at_of o.words (child_place c k)))
 unfolding child_spot
 cell_tree o w c e r =
     let at : ℕ → ℕ = at_of o.words in
@@ -101,7 +112,8 @@ height_left o zero w (ACell c e) r all = absurd (omega (arith, cell_low o w c e 
 height_left o (suc left) w (ACell c e) r all =
     let child : ℕ → ℕ = λ k. at_of o.words (child_place c k) in
     let kids = height_within (λ k. tree_of_word o (child k)) (suc left)
-    (λ k small. let kid : height (tree_of_word o (child k)) ≤ left = height_left o left (child k) (word_is (child k)) (child_spot o w c e r k small) (omega arith) in omega (arith, kid)) in
+    (λ k small. let kid : height (tree_of_word o (child k)) ≤ left = height_left o left (child k) (word_is (child k)) (child_spot o w c e r k small)
+    (omega arith) in omega (arith, kid)) in
     omega (arith, ap height (cell_tree o w c e r), kids)
 
 -- What holds of the words that name no cell, and of a cell's word where it holds of its children's, holds of each word that is read.
@@ -113,7 +125,8 @@ each_spot o P none one cell left w (NoBody e) r all = none w e
 each_spot o P none one cell left w (OneBody n e) r all = one w n e
 each_spot o P none one cell zero w (ACell c e) r all = absurd (omega (arith, cell_low o w c e r))
 each_spot o P none one cell (suc left) w (ACell c e) r all =
-    cell w c e r (λ k small. each_spot o P none one cell left (at_of o.words (child_place c k)) (word_is (at_of o.words (child_place c k))) (child_spot o w c e r k small) (omega arith))
+    cell w c e r (λ k small. each_spot o P none one cell left (at_of o.words (child_place c k)) (word_is (at_of o.words (child_place c k)))
+    (child_spot o w c e r k small) (omega arith))
 
 -- ---- the cells below a word
 
@@ -124,20 +137,27 @@ record HasKeyIn (at : ℕ → ℕ) (top base upper v : ℕ) : Type 0 where
   inside : IsKeyBelow upper key
 
 key_in : (at : ℕ → ℕ) (top base upper w v : ℕ) → IsReachedAs at top base upper w → IsReached at w v → HasKeyIn at top base upper v
-key_in at top base upper w _ r (Here v e) = record { key = upper; read = subst (λ (y : ℕ). IsReachedAs at top base upper y) (sym e) r; inside = Same upper refl }
+key_in at top base upper w _ r (Here v e) = record {
+  key = upper;
+  read = subst (λ (y : ℕ). IsReachedAs at top base upper y) (sym e) r;
+  inside = Same upper refl;
+}
 key_in at top base upper w _ r (Below c k v s l e) =
     let f = key_in at top base upper w (cell_word c) r s in
     record { key = 8 * f.key + k; read = BelowAs c k f.key (8 * f.key + k) v f.read l refl e; inside = Deeper f.key k (8 * f.key + k) f.inside l refl }
 
 -- a cell that is read below two children of a cell is read below one child
 one_child : (o : Stored) (w c i j d : ℕ) → w ≡ cell_word c → IsSpot (spot_at o w) → i < 8 → j < 8
-    → IsReached (at_of o.words) (at_of o.words (child_place c i)) (cell_word d) → IsReached (at_of o.words) (at_of o.words (child_place c j)) (cell_word d) → i ≡ j
+    → IsReached (at_of o.words) (at_of o.words (child_place c i)) (cell_word d) → IsReached (at_of o.words) (at_of o.words (child_place c j)) (cell_word d)
+    → i ≡ j
 one_child o w c i j d e r p q x y =
     let at : ℕ → ℕ = at_of o.words in
     let key : ℕ = r.key in
     let one : 1 ≤ key = spot_positive (spot_at o w) r in
-    let f = key_in at (root_word o) o.base (8 * key + i) (at (child_place c i)) (cell_word d) (BelowAs c i key (8 * key + i) (at (child_place c i)) (cell_read o w c e r) p refl refl) x in
-    let g = key_in at (root_word o) o.base (8 * key + j) (at (child_place c j)) (cell_word d) (BelowAs c j key (8 * key + j) (at (child_place c j)) (cell_read o w c e r) q refl refl) y in
+    let f = key_in at (root_word o) o.base (8 * key + i) (at (child_place c i)) (cell_word d)
+    (BelowAs c i key (8 * key + i) (at (child_place c i)) (cell_read o w c e r) p refl refl) x in
+    let g = key_in at (root_word o) o.base (8 * key + j) (at (child_place c j)) (cell_word d)
+    (BelowAs c j key (8 * key + j) (at (child_place c j)) (cell_read o w c e r) q refl refl) y in
     let same : g.key ≡ f.key = sym (r.stored.sound.keys_follow g.key d g.read) ∙ r.stored.sound.keys_follow f.key d f.read in
     elim (comparable (8 * key + i) (8 * key + j) f.key f.inside (subst (λ (z : ℕ). IsKeyBelow (8 * key + j) z) same g.inside)) [
       | inl z ↦ child_in_child key i j one p q z
@@ -195,7 +215,8 @@ one_has o w m e n =
           subst (λ (y : List ℕ). IsIn y n) (sym order_is) (inl same)),
     )
 
-cell_has : (o : Stored) (w c : ℕ) → w ≡ cell_word c → IsSpot (spot_at o w) → ((k : ℕ) → k < 8 → HasItsBodies o (at_of o.words (child_place c k))) → HasItsBodies o w
+cell_has : (o : Stored) (w c : ℕ) → w ≡ cell_word c → IsSpot (spot_at o w) → ((k : ℕ) → k < 8 → HasItsBodies o (at_of o.words (child_place c k)))
+    → HasItsBodies o w
 cell_has o w c e r each n =
     let at : ℕ → ℕ = at_of o.words in
     let orders : ℕ → List ℕ = λ k. order (tree_of_word o (at (child_place c k))) in
@@ -254,7 +275,11 @@ cell_parts s c r e =
       below = λ k d l h. subst (λ (w : ℕ). IsReached at w (cell_word d)) (sym e) (below_cell at c k (cell_word d) l (child k d h));
       nothing_else = λ d h. elim (under_word at c (cell_word d) (subst (λ (w : ℕ). IsReached at w (cell_word d)) e h)) [
         | inl f ↦ inl (omega (arith, f))
-        | inr f ↦ inr (record { octant = f.octant; small = f.small; under = subst (λ (x : ℕ). IsReached at (at (child_place x f.octant)) (cell_word d)) (sym number) f.read })
+        | inr f ↦ inr (record {
+          octant = f.octant;
+          small = f.small;
+          under = subst (λ (x : ℕ). IsReached at (at (child_place x f.octant)) (cell_word d)) (sym number) f.read;
+        })
       ];
       apart = λ i j d p q x y. one_child s.octree s.word c i j d e r p q (child i d x) (child j d y);
     }
@@ -271,7 +296,11 @@ cell_at_itself s c r e =
       tree = cell_tree o s.word c e r ∙ ap (λ d. cell_of (λ k. tree_of_word o (at_of o.words (child_place d k)))) (sym number);
       kept = ap (tree_of_word o) e ∙ ap (λ d. tree_of_word o (cell_word d)) (sym number);
       reached = subst (λ (d : ℕ). HasCell o.words d) (sym number) (cell_reached o s.word c e r);
-      some = record { body = one.one; inside = (bodies_of_spot o s.word r one.one).1 (subst (λ (w : ℕ). IsReached (at_of o.words) w (body_word one.one)) (sym e) one.one_is) };
+      some = record {
+        body = one.one;
+        inside = (bodies_of_spot o s.word r one.one).1
+            (subst (λ (w : ℕ). IsReached (at_of o.words) w (body_word one.one)) (sym e) one.one_is);
+      };
       parts = cell_parts s c r e;
     }
 
@@ -290,7 +319,10 @@ child_is_child o c k w e =
     record {
       tree = ap (tree_of_word o) word;
       octree = refl;
-      cells = λ d. (λ h. subst (λ (x : ℕ). IsReached (at_of o.words) x (cell_word d)) word h, λ h. subst (λ (x : ℕ). IsReached (at_of o.words) x (cell_word d)) (sym word) h);
+      cells = λ d. (
+        λ h. subst (λ (x : ℕ). IsReached (at_of o.words) x (cell_word d)) word h,
+        λ h. subst (λ (x : ℕ). IsReached (at_of o.words) x (cell_word d)) (sym word) h,
+      );
     }
 
 -- the number of a cell
@@ -327,7 +359,8 @@ child_octree s cell child k at is = is.octree ∙ ap (λ (x : Spot). x.octree) a
 
 -- and its tree is less high
 pub child_height : (s cell child : Spot) (k : ℕ) → IsCellAt s cell → IsChildOf cell k child → k < 8 → height (tree_under child) < height (tree_under s)
-child_height s cell child k at is small = subst (λ (t : Tree). height (tree_under child) < height t) (sym at.tree) (subst (λ (t : Tree). height t < height (cell_of (child_under cell))) (sym is.tree) (height_falls (child_under cell) k small))
+child_height s cell child k at is small = subst (λ (t : Tree). height (tree_under child) < height t) (sym at.tree)
+    (subst (λ (t : Tree). height t < height (cell_of (child_under cell))) (sym is.tree) (height_falls (child_under cell) k small))
 
 -- and the tree of a cell is not flat
 pub cell_height : (s cell : Spot) → IsCellAt s cell → 1 ≤ height (tree_under s)

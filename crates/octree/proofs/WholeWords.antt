@@ -1,5 +1,6 @@
 -- The words of an octree of the whole cube, made a tree again.
-use Rattle.std.proofs.Common.{ℕ, ◌+◌, ◌-◌, ◌*◌, ◌/◌, ◌<◌, ◌≤◌, ◌≡◌, ◌⊎◌, inl, inr, sym, ◌∙◌, ap, subst, arith, List, ◌++◌, length, length-append, replicate, take, refl}
+use Rattle.std.proofs.Common.{ℕ, ◌+◌, ◌-◌, ◌*◌, ◌/◌, ◌<◌, ◌≤◌, ◌≡◌, ◌⊎◌, inl, inr, sym, ◌∙◌, ap, subst, arith, List, ◌++◌, length, length-append, replicate}
+use Rattle.std.proofs.Common.{take, refl}
 use Rattle.std.proofs.lemmas.Bool.{cases_lt}
 use Rattle.std.proofs.lemmas.List.{get_or-replicate, get_or-append_right, get_or_append_left, length-replicate, length-take-le, take_all, take_at, get_or-take}
 use Rattle.bh_model.proofs.MoreThan.{one_of_more}
@@ -32,7 +33,8 @@ all_same o =
     (λ i l m. get_or-append_right o.words (replicate n 0) (length o.words) i 0 refl l ∙ get_or-replicate n (i - length o.words) 0 0 (omega (arith, len)))
 
 -- the words that are filled up to all that are held
-pub filled : (o : Stored) (words : List ℕ) (n m : ℕ) → IsStored o → n ≡ 3 + 10 * o.held → m ≡ length o.words → words ≡ take n o.words ++ replicate (n - m) 0 → words ≡ all_words o
+pub filled : (o : Stored) (words : List ℕ) (n m : ℕ) → IsStored o → n ≡ 3 + 10 * o.held → m ≡ length o.words → words ≡ take n o.words ++ replicate (n - m) 0
+    → words ≡ all_words o
 filled o words n m h is_n is_m e =
     let left : n - m ≡ 10 * spare_of o = omega (arith, h.long, h.used_held) in
     e ∙ ap (λ y. y ++ replicate (n - m) 0) (take_all n o.words (omega (arith, h.long, h.used_held))) ∙ ap (λ k. o.words ++ replicate k 0) left
@@ -67,13 +69,20 @@ full_again o h one =
 pub used_again : (o : Stored) → IsStored o → o.base ≡ 1 → tree_with_used (all_words o) o.used ≡ o
 used_again o h one =
     let cells : (length (all_words o) - 3) / 10 ≡ o.held = omega (arith, all_length o h) in
-    ap (λ (words : List ℕ). record { words = words; base = 1; level = 0; used = o.used; held = (length (all_words o) - 3) / 10 }) (take_at o.words (replicate (10 * spare_of o) 0) (3 + 10 * o.used) h.long)
+    ap (λ (words : List ℕ). record {
+      words = words;
+      base = 1;
+      level = 0;
+      used = o.used;
+      held = (length (all_words o) - 3) / 10;
+    }) (take_at o.words (replicate (10 * spare_of o) 0) (3 + 10 * o.used) h.long)
     ∙ ap (λ (n : ℕ). record { words = o.words; base = 1; level = 0; used = o.used; held = n }) cells
     ∙ ap (λ (b : ℕ). record { words = o.words; base = b; level = 0; used = o.used; held = o.held }) (sym one)
     ∙ ap (λ (l : ℕ). record { words = o.words; base = o.base; level = l; used = o.used; held = o.held }) (sym (whole_level o h one))
 
 -- below cells that are not used nothing is read
-unused_bare : (words : List ℕ) (used c : ℕ) → IsBlankFrom words used → used ≤ c → (w : ℕ) → IsReached (at_of words) (cell_word c) w → (w ≡ cell_word c) ⊎ (w ≡ 0)
+unused_bare : (words : List ℕ) (used c : ℕ) → IsBlankFrom words used → used ≤ c → (w : ℕ) → IsReached (at_of words) (cell_word c) w
+    → (w ≡ cell_word c) ⊎ (w ≡ 0)
 unused_bare words used c blank past _ (Here w e) = inl e
 unused_bare words used c blank past _ (Below d k w r l e) = elim (unused_bare words used c blank past (cell_word d) r) [
   | inl f ↦ inr (e ∙ blank (child_place d k) (omega arith))
@@ -91,11 +100,13 @@ cells_below words used h blank c r = elim (cases_lt c used) [
 ]
 
 -- the words of the used cells alone are an octree's
-pub used_stored : (words : List ℕ) (used : ℕ) → AreOctreeWords words → 3 + 10 * used ≤ length words → IsBlankFrom words used → IsStored (tree_with_used words used)
+pub used_stored : (words : List ℕ) (used : ℕ) → AreOctreeWords words → 3 + 10 * used ≤ length words → IsBlankFrom words used
+    → IsStored (tree_with_used words used)
 used_stored words used h within blank =
     let part : List ℕ = take (3 + 10 * used) words in
     let len : length part ≡ 3 + 10 * used = length-take-le (3 + 10 * used) words within in
-    let same : at_of words ≡ at_of part = at_longer part words (omega arith) (λ i l. sym (get_or-take (3 + 10 * used) words i 0 (omega arith))) (λ i l m. blank i (omega arith)) in
+    let same : at_of words ≡ at_of part = at_longer part words (omega arith) (λ i l. sym (get_or-take (3 + 10 * used) words i 0 (omega arith)))
+    (λ i l m. blank i (omega arith)) in
     record {
       few = omega (arith, h.few, h.long);
       long = len;

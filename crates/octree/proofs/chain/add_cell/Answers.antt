@@ -1,4 +1,4 @@
-use Rattle.std.proofs.Common.{ℕ, ◌≡◌, length, vec_len, refl, arith}
+use Rattle.std.proofs.Common.{◌≡◌, length, vec_len, refl, arith}
 use Rattle.octree.proofs.Chains.{added}
 use Rattle.octree.proofs.Words.{at_longer}
 use Rattle.octree.proofs.chain.add_cell.Goals as goal
@@ -10,4 +10,5 @@ returns-clause-added c =
     let same = at_longer c.args.words.now.items c.resize.new.self.items (omega (arith, was, is, c.in-Ok.ensures.len))
     (λ i l. c.in-Ok.ensures.by_index.0 i 0 (omega (arith, l)) (omega (arith, l, was)))
     (λ i m l. c.in-Ok.ensures.by_index.1 i 0 refl (omega (arith, m, was)) (omega (arith, l, is, c.in-Ok.ensures.len))) in
-    added c.args.words.now.items c.resize.new.self.items c.args.cell c.args.key c.place_of_key.result c.requires.len (omega (arith, is, c.in-Ok.ensures.len)) same c.place_of_key.ensures c.requires.unlocked
+    added c.args.words.now.items c.resize.new.self.items c.args.cell c.args.key c.place_of_key.result c.requires.len (omega (arith, is, c.in-Ok.ensures.len))
+    same c.place_of_key.ensures c.requires.unlocked

@@ -9,8 +9,11 @@ count_cells-count-requires t c =
     let f = child_under c.in-Cell.cell in
     let all = counts_all f (tree_under c.args.at) c.in-Cell.ensures.tree in
     let next = counts_next f (tree_under c.child.result) c.loop-k.k c.child.ensures.tree in
-    let few = counts_few f c.loop-k.k c.loop-k-test.true in
-    (omega (arith, child_height c.args.at c.in-Cell.cell c.child.result c.loop-k.k c.in-Cell.ensures c.child.ensures c.loop-k-test.true), omega (arith, all, next, few, c.loop-k.invariant, c.requires))
+    let few = counts_few f c.loop-k.k c.loop-k-test.true in (
+      omega (arith, child_height c.args.at c.in-Cell.cell c.child.result c.loop-k.k c.in-Cell.ensures c.child.ensures c.loop-k-test.true),
+      omega
+          (arith, all, next, few, c.loop-k.invariant, c.requires),
+    )
 
 pub returns-after-loop-k : goal.returns-after-loop-k
 returns-after-loop-k t c =

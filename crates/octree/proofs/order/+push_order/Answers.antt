@@ -8,4 +8,5 @@ returns-in-Ok t c = order_one (tree_under c.args.at) c.in-Body.n c.args.bodies.n
 
 pub returns-after-loop-k : goal.returns-after-loop-k
 returns-after-loop-k t c =
-    orders_all (child_under c.in-Cell.cell) (tree_under c.args.at) c.loop-k.k c.args.bodies.now.items c.loop-k.bodies.items c.in-Cell.ensures.tree c.loop-k.invariant (omega arith)
+    orders_all (child_under c.in-Cell.cell) (tree_under c.args.at) c.loop-k.k c.args.bodies.now.items c.loop-k.bodies.items c.in-Cell.ensures.tree
+    c.loop-k.invariant (omega arith)

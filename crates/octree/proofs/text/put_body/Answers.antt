@@ -9,7 +9,8 @@ returns-in-Ok-clause-text g c =
     let after = g.K.Sink.written c.put.new.sink in
     let digits : c.as_bytes.result.now ≡ decimal c.args.n = c.as_bytes.ensures.value ∙ c.format.ensures.text in
     subst (λ (y : List ℕ). Puts before after c.args.buffer.now c.put.new.self (98 ∷ y) c.put.result) digits
-    (puts_then before (g.K.Sink.written c.put_byte.new.sink) after c.args.buffer.now c.put_byte.new.self c.put.new.self (98 ∷ []) c.as_bytes.result.now c.put.result c.in-Ok.ensures.text
+    (puts_then before (g.K.Sink.written c.put_byte.new.sink) after c.args.buffer.now c.put_byte.new.self c.put.new.self (98 ∷ []) c.as_bytes.result.now
+    c.put.result c.in-Ok.ensures.text
     c.put.ensures.text)
 
 pub returns-in-Err-clause-text : goal.returns-in-Err-clause-text

@@ -12,7 +12,8 @@ insert-requires-clause-under c =
     under_whole (site_at c.args.points.now c.loop-n.n) c.reserve.new.self.base more.base
 
 pub insert-requires-clause-canonical : goal.insert-requires-clause-canonical
-insert-requires-clause-canonical c = (built_roomier c.args.points.now c.loop-n.tree c.reserve.new.self c.loop-n.n c.loop-n.invariant c.reserve.ensures.stays).canonical
+insert-requires-clause-canonical c = (built_roomier c.args.points.now c.loop-n.tree c.reserve.new.self c.loop-n.n c.loop-n.invariant
+    c.reserve.ensures.stays).canonical
 
 pub insert-requires-clause-fresh : goal.insert-requires-clause-fresh
 insert-requires-clause-fresh c =

@@ -8,7 +8,8 @@ invariant_of-result c =
     let items = c.args.words.items in
     let len : c.len.result ≡ length items = c.len.ensures ∙ c.args.words.ok.0 in
     let held : (length items - 3) / 10 ≡ c.cells_of_words-cells.result = omega (arith, len, c.cells_of_words-cells.ensures) in
-    let words : take (3 + 10 * c.args.used) items ≡ c.truncate.new.self.items = ap (λ n. take n items) (sym c.words_of_cells.ensures) ∙ sym c.truncate.ensures.items in
+    let words : take (3 + 10 * c.args.used) items ≡ c.truncate.new.self.items = ap (λ n. take n items) (sym c.words_of_cells.ensures)
+    ∙ sym c.truncate.ensures.items in
     let room : vec_len c.args.words ≤ vec_capacity c.args.words = c.args.words.ok.1 in (
       subst (λ (n : ℕ). IsStored (record { words = c.truncate.new.self.items; base = 1; level = 0; used = c.args.used; held = n })) held
           (subst (λ (y : List ℕ). IsStored (record { words = y; base = 1; level = 0; used = c.args.used; held = (length items - 3) / 10 })) words
