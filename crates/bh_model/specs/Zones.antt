@@ -1,5 +1,6 @@
 -- Costs of bodies, and the zones that the workers have of a tree (costzones: Singh, Holt, Totsuka, Gupta and Hennessy, JPDC 1995).
 use Rattle.std.specs.Prelude.{ℕ, ◌+◌, ◌*◌, ◌/◌, ◌≡◌, ◌<◌, ◌≤◌, List, [], ◌∷◌, map, nat_eq, replicate, slice_index, sum_by, if◌then◌else◌}
+use Rattle.octant_code.specs.declared.limits.TheConstants.{MOST_BODIES}
 use Rattle.bh_model.specs.Bodies.{IsIn, numbers}
 use Rattle.bh_model.specs.Trees.{Tree, greatest, order}
 use Rattle.bh_model.specs.declared.pull.Pull.{Pull}
@@ -12,10 +13,10 @@ first_costs count = replicate count 1
 abbrev pub cost_after : Pull → ℕ
 cost_after p = 1 + p.met
 
--- a cost is from 1 to 65,536
+-- a cost is from 1 to the greatest number of bodies
 pub record IsCost (cost : ℕ) : Type 0 where
   pub positive : 1 ≤ cost
-  pub small : cost ≤ 65536
+  pub small : cost ≤ MOST_BODIES
 
 -- the cost of a body, by a list of costs
 abbrev pub cost_at : List ℕ → ℕ → ℕ

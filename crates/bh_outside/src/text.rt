@@ -16,18 +16,19 @@ const ROOM: usize = 65_536;
 /// each full buffer and once at the end, and no memory is taken.
 #[derive(Drop)]
 pub struct TextBuffer {
-    bytes: [u8; 65536],
+    bytes: [u8; ROOM],
     filled: usize,
 }
 
 impl Model for TextBuffer {
     ghost use Rattle.std.specs.Prelude.{◌≤◌, List, ℕ, take};
+    ghost use Rattle.bh_outside.specs.declared.text.TheConstants.{ROOM};
 
     ghost Value = { List ℕ };
 
     ghost view = { λ p. take p.filled p.bytes };
 
-    ghost invariant = { λ p. p.filled ≤ 65536 };
+    ghost invariant = { λ p. p.filled ≤ ROOM };
 }
 
 impl TextBuffer {
@@ -96,7 +97,7 @@ impl TextBuffer {
 
     // Puts a text that fits behind the bytes that wait.
     fn keep(&mut self, text: &[u8])
-        requires fits { length self.old + length text.now ≤ 65536 }
+        requires fits { length self.old + length text.now ≤ ROOM }
         ensures { self.new ≡ self.old ++ text.now }
     {
         let end = self.filled + text.len();
@@ -108,7 +109,7 @@ impl TextBuffer {
     // tree's text are one byte.
     #[inline]
     fn keep_byte(&mut self, byte: u8)
-        requires fits { length self.old < 65536 }
+        requires fits { length self.old < ROOM }
         ensures { self.new ≡ self.old ++ (byte ∷ []) }
     {
         self.bytes[self.filled] = byte;

@@ -7,7 +7,7 @@ ghost use Rattle.bh_model.specs.Trees.{octree, octree_from};
 
 use crate::trees::bodies_in_octant;
 use bh_model::Moment;
-use octant_code::{LEVELS, OutOfMemory, Points};
+use octant_code::{LEVELS, MOST_BODIES, OutOfMemory, Points};
 use std::alloc::Global;
 
 /// The moment of the bodies: the sums of their masses, of mass times each coordinate, of 1 and of
@@ -26,7 +26,7 @@ pub fn plain_moment(
     requires weighed { All (λ n. n < length masses.now) bodies.now }
     requires costed { All (λ n. n < length costs.now) bodies.now }
     requires light { sum_by (λ n. slice_index masses.now n) bodies.now < 2 ^ 40 }
-    requires few { length bodies.now ≤ 65536 }
+    requires few { length bodies.now ≤ MOST_BODIES }
     requires cheap { sum_by (λ n. slice_index costs.now n) bodies.now < 2 ^ 64 }
     ensures { IfOk result (λ m. m ≡ moment (matter_by masses.now points.now) (λ n. slice_index costs.now n) (octree (site_at points.now) bodies.now)) }
 {
