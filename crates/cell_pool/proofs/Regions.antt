@@ -1,5 +1,6 @@
 -- What becomes of the cells of a region, which stand in a list behind those that were spent.
-use Rattle.std.proofs.Common.{ℕ, ◌+◌, ◌-◌, ◌<◌, ◌≤◌, ◌≡◌, sym, ◌∙◌, ap, subst, inl, inr, arith, List, [], ◌∷◌, ◌++◌, drop, take, length, length-append, length-drop}
+use Rattle.std.proofs.Common.{ℕ, ◌+◌, ◌-◌, ◌<◌, ◌≤◌, ◌≡◌, sym, ◌∙◌, ap, subst, inl, inr, arith, List, [], ◌∷◌, ◌++◌, drop, take, length, length-append}
+use Rattle.std.proofs.Common.{length-drop}
 use Rattle.std.proofs.lemmas.List.{drop-append-le, drop-drop, length-take-le, take-append-drop}
 use Rattle.bh_model.specs.Bodies.{IsIn, NoneTwice}
 use Rattle.bh_model.proofs.Lists.{none_twice-append, once_back, once_front}
@@ -24,7 +25,7 @@ given items c spent room low h absent place =
     record {
       once = subst NoneTwice (sym parts)
           (none_twice-append (drop spent items) (c ∷ []) h.once ((λ i. i), tt)
-              (λ n i j. elim j [ inl e ↦ absent (subst (IsIn (drop spent items)) e i) | inr k ↦ k ]));
+          (λ n i j. elim j [ inl e ↦ absent (subst (IsIn (drop spent items)) e i) | inr k ↦ k ]));
       fits = omega (arith, place, ap length parts, length-append (drop spent items) (c ∷ []));
     }
 

@@ -13,7 +13,8 @@ use Rattle.costzones.proofs.Openings.{child_opened, child_start, opened-body, op
 use Rattle.costzones.proofs.Ranges.{between-below, between-cell, between-in, between-nil, between-none, child_between}
 
 -- each body of a tree costs something
-pub costs_positive : (tree : Tree) (costs : List ℕ) → ((n : ℕ) → IsIn (order tree) n → n < length costs) → All IsCost costs → (n : ℕ) → IsIn (order tree) n → 1 ≤ cost_at costs n
+pub costs_positive : (tree : Tree) (costs : List ℕ) → ((n : ℕ) → IsIn (order tree) n → n < length costs) → All IsCost costs → (n : ℕ) → IsIn (order tree) n
+    → 1 ≤ cost_at costs n
 costs_positive tree costs within each n i = (All-get_or IsCost costs n 0 (within n i) each).positive
 
 -- the bodies of the first k children are gathered, and the cells that were opened are the cell itself and those of these children
@@ -23,21 +24,33 @@ pub record IsGathered (cost : ℕ → ℕ) (low high p : ℕ) (child : ℕ → T
   pub steps_are : steps ≡ first + 1 + sum_upto (child_opened cost low high p child) k
 
 -- before the first child
-pub gathered_none : (cost : ℕ → ℕ) (low high p : ℕ) (child : ℕ → Tree) (start : List ℕ) (first steps : ℕ) → steps ≡ first + 1 → IsGathered cost low high p child start first 0 start p steps
+pub gathered_none : (cost : ℕ → ℕ) (low high p : ℕ) (child : ℕ → Tree) (start : List ℕ) (first steps : ℕ) → steps ≡ first + 1
+    → IsGathered cost low high p child start first 0 start p steps
 unfolding sum_upto
 gathered_none cost low high p child start first steps e = record { at_is = omega arith; items_are = sym (append-nil start); steps_are = omega arith }
 
 -- one child more
-pub gathered_more : {cost : ℕ → ℕ} {low high p : ℕ} {child : ℕ → Tree} {start : List ℕ} {first k : ℕ} {items : List ℕ} {at steps : ℕ} (next : List ℕ) (more to : ℕ) (tree : Tree)
-    → IsGathered cost low high p child start first k items at steps → tree ≡ child k → to ≡ at + total cost tree → next ≡ items ++ between cost low high at (order tree)
+pub gathered_more : {cost : ℕ → ℕ} {low high p : ℕ} {child : ℕ → Tree} {start : List ℕ} {first k : ℕ} {items : List ℕ} {at steps : ℕ} (next : List ℕ)
+    (more to : ℕ) (tree : Tree)
+    → IsGathered cost low high p child start first k items at steps → tree ≡ child k → to ≡ at + total cost tree
+    → next ≡ items ++ between cost low high at (order tree)
     → more ≡ steps + opened_from cost low high at tree → IsGathered cost low high p child start first (k + 1) next to more
 gathered_more {cost} {low} {high} {p} {child} {start} {first} {k} {items} {at} {steps} next more to tree done same to_is next_is more_is = record {
   at_is = omega (arith, done.at_is, to_is, ap (total cost) same, sum_upto-more (λ j. total cost (child j)) k);
   items_are = next_is ∙ ap (λ t. items ++ between cost low high at (order t)) same ∙ ap (λ q. items ++ between cost low high q (order (child k))) done.at_is
-      ∙ ap (λ zs. zs ++ child_between cost low high p child k) done.items_are ∙ append_assoc start (joined (child_between cost low high p child) k) (child_between cost low high p child k)
+      ∙ ap (λ zs. zs ++ child_between cost low high p child k) done.items_are
+      ∙ append_assoc start (joined (child_between cost low high p child) k) (child_between cost low high p child k)
       ∙ ap (λ j. start ++ joined (child_between cost low high p child) j) (sym (add-one k));
   steps_are =
-      omega (arith, more_is, done.steps_are, ap (opened_from cost low high at) same, ap (λ q. opened_from cost low high q (child k)) done.at_is, sum_upto-more (child_opened cost low high p child) k);
+      omega (
+        arith,
+        more_is,
+        done.steps_are,
+        ap (opened_from cost low high at) same,
+        ap (λ q. opened_from cost low high q (child k)) done.at_is,
+        sum_upto-more
+            (child_opened cost low high p child) k,
+      );
 }
 
 -- one child more, whose span doesn't meet the range
@@ -47,7 +60,8 @@ pub gathered_skip : {cost : ℕ → ℕ} {low high p : ℕ} {child : ℕ → Tre
 gathered_skip {cost} {low} {high} {p} {child} {start} {first} {k} {items} {at} {steps} to tree done same to_is one apart =
     let apart' : meets low high at (at + total cost tree) ≡ false = ap (meets low high at) (sym to_is) ∙ apart in
     let none = between-none cost low high at (order tree) one (ap (λ s. meets low high at (at + s)) (sym (total-order cost tree)) ∙ apart') in
-    gathered_more items steps to tree done same to_is (sym (append-nil items) ∙ ap (λ zs. items ++ zs) (sym none)) (omega (arith, opened-none cost low high at tree apart'))
+    gathered_more items steps to tree done same to_is (sym (append-nil items) ∙ ap (λ zs. items ++ zs) (sym none))
+    (omega (arith, opened-none cost low high at tree apart'))
 
 -- after all children
 pub gathered_items : {cost : ℕ → ℕ} {low high p : ℕ} {child : ℕ → Tree} {start : List ℕ} {first k : ℕ} {items : List ℕ} {at steps : ℕ} (tree : Tree)
@@ -69,8 +83,10 @@ gathered_opened {cost} {low} {high} {p} {child} tree done all same met =
     omega (arith, done.steps_are, ap (sum_upto (child_opened cost low high p child)) all, opened_cell cost low high p child tree same met)
 
 -- where the descent breaks off in a child
-pub gathered_broken : {cost : ℕ → ℕ} {low high p : ℕ} {child : ℕ → Tree} {start : List ℕ} {first k : ℕ} {items : List ℕ} {at steps : ℕ} (more : ℕ) (part tree : Tree)
-    → IsGathered cost low high p child start first k items at steps → k < 8 → part ≡ child k → more ≤ steps + opened_from cost low high at part → tree ≡ cell_of child
+pub gathered_broken : {cost : ℕ → ℕ} {low high p : ℕ} {child : ℕ → Tree} {start : List ℕ} {first k : ℕ} {items : List ℕ} {at steps : ℕ} (more : ℕ)
+    (part tree : Tree)
+    → IsGathered cost low high p child start first k items at steps → k < 8 → part ≡ child k → more ≤ steps + opened_from cost low high at part
+    → tree ≡ cell_of child
     → meets low high p (p + total cost tree) ≡ true → more ≤ first + opened_from cost low high p tree
 gathered_broken {cost} {low} {high} {p} {child} {k = k} {at = at} more part tree done small same few whole met =
     omega (
@@ -88,24 +104,37 @@ gathered_broken {cost} {low} {high} {p} {child} {k = k} {at = at} more part tree
 pub cost_fits : {cost : ℕ → ℕ} {low high p : ℕ} {child : ℕ → Tree} {start : List ℕ} {first k : ℕ} {items : List ℕ} {at steps : ℕ} (part tree : Tree)
     → IsGathered cost low high p child start first k items at steps → k < 8 → part ≡ child k → tree ≡ cell_of child → at + total cost part ≤ p + total cost tree
 cost_fits {cost} {child = child} {k = k} part tree done small same whole =
-    omega (arith, done.at_is, ap (total cost) same, ap (total cost) whole, total-cell cost child, sum_upto-le (λ j. total cost (child j)) (k + 1) 8 (omega arith), sum_upto-more (λ j. total cost (child j)) k)
+    omega (
+      arith,
+      done.at_is,
+      ap (total cost) same,
+      ap (total cost) whole,
+      total-cell cost child,
+      sum_upto-le (λ j. total cost (child j)) (k + 1) 8
+          (omega arith),
+      sum_upto-more (λ j. total cost (child j)) k,
+    )
 
 -- ---- no body and one body
 
 pub items_none : (cost : ℕ → ℕ) (low high p : ℕ) (tree : Tree) (items : List ℕ) → tree ≡ Empty → items ≡ items ++ between cost low high p (order tree)
 items_none cost low high p tree items e =
-    sym (append-nil items) ∙ ap (λ zs. items ++ zs) (sym (ap (λ t. between cost low high p (order t)) e ∙ ap (between cost low high p) order-empty ∙ between-nil cost low high p))
+    sym (append-nil items)
+    ∙ ap (λ zs. items ++ zs) (sym (ap (λ t. between cost low high p (order t)) e ∙ ap (between cost low high p) order-empty ∙ between-nil cost low high p))
 
 pub items_one : (cost : ℕ → ℕ) (low high p n : ℕ) (tree : Tree) (items next : List ℕ) → tree ≡ Body n → low ≤ p → p < high → next ≡ items ++ n ∷ []
     → next ≡ items ++ between cost low high p (order tree)
 items_one cost low high p n tree items next e from to put =
-    put ∙ ap (λ zs. items ++ zs) (sym (ap (λ t. between cost low high p (order t)) e ∙ ap (between cost low high p) (order-body n) ∙ between-in cost low high p n [] from to
+    put ∙ ap (λ zs. items ++ zs)
+    (sym (ap (λ t. between cost low high p (order t)) e ∙ ap (between cost low high p) (order-body n) ∙ between-in cost low high p n [] from to
     ∙ ap (λ zs. n ∷ zs) (between-nil cost low high (p + cost n))))
 
-pub items_before : (cost : ℕ → ℕ) (low high p n : ℕ) (tree : Tree) (items : List ℕ) → tree ≡ Body n → p < low → items ≡ items ++ between cost low high p (order tree)
+pub items_before : (cost : ℕ → ℕ) (low high p n : ℕ) (tree : Tree) (items : List ℕ) → tree ≡ Body n → p < low
+    → items ≡ items ++ between cost low high p (order tree)
 items_before cost low high p n tree items e before =
     sym (append-nil items)
-    ∙ ap (λ zs. items ++ zs) (sym (ap (λ t. between cost low high p (order t)) e ∙ ap (between cost low high p) (order-body n) ∙ between-below cost low high p n [] before
+    ∙ ap (λ zs. items ++ zs)
+    (sym (ap (λ t. between cost low high p (order t)) e ∙ ap (between cost low high p) (order-body n) ∙ between-below cost low high p n [] before
     ∙ between-nil cost low high (p + cost n)))
 
 pub opened_nothing : (cost : ℕ → ℕ) (low high p : ℕ) (tree : Tree) → tree ≡ Empty → opened_from cost low high p tree ≡ 0
@@ -119,13 +148,15 @@ pub record IsTaken (cost : ℕ → ℕ) (low high : ℕ) (tree : Tree) (first : 
   pub items_are : items ≡ between cost low high 0 (order tree)
   pub steps_are : steps ≡ first + opened_from cost low high 0 tree
 
-pub taken_all : (cost : ℕ → ℕ) (low high : ℕ) (tree : Tree) (first : ℕ) (start items : List ℕ) (steps : ℕ) → start ≡ [] → items ≡ start ++ between cost low high 0 (order tree)
+pub taken_all : (cost : ℕ → ℕ) (low high : ℕ) (tree : Tree) (first : ℕ) (start items : List ℕ) (steps : ℕ) → start ≡ []
+    → items ≡ start ++ between cost low high 0 (order tree)
     → steps ≡ first + opened_from cost low high 0 tree → IsTaken cost low high tree first items steps
 taken_all cost low high tree first start items steps none items_are steps_are =
     record { items_are = items_are ∙ ap (λ xs. xs ++ between cost low high 0 (order tree)) none; steps_are = steps_are }
 
 -- nothing is where the tree's span doesn't meet the range
-pub taken_none : (cost : ℕ → ℕ) (low high whole : ℕ) (tree : Tree) (first : ℕ) (start : List ℕ) → start ≡ [] → ((n : ℕ) → IsIn (order tree) n → 1 ≤ cost n) → whole ≡ total cost tree
+pub taken_none : (cost : ℕ → ℕ) (low high whole : ℕ) (tree : Tree) (first : ℕ) (start : List ℕ) → start ≡ [] → ((n : ℕ) → IsIn (order tree) n → 1 ≤ cost n)
+    → whole ≡ total cost tree
     → meets low high 0 whole ≡ false → IsTaken cost low high tree first start first
 taken_none cost low high whole tree first start none one whole_is apart =
     let all : whole ≡ 0 + total cost tree = omega (arith, whole_is) in

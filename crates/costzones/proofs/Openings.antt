@@ -1,5 +1,6 @@
 -- How many cells are opened on the way to the bodies that begin in a range of cost: at most as many as the tree is high for each of them, and as many again.
-use Rattle.std.proofs.Common.{◌≡◌, ◌≤◌, ◌<◌, ◌+◌, ◌-◌, ◌*◌, ◌&&◌, inl, inr, ℕ, zero, suc, cond, List, [], ◌∷◌, length, ltb, max, min, true, false, refl, ap, ◌∙◌, sym, arith, sum_by, length-append}
+use Rattle.std.proofs.Common.{◌≡◌, ◌≤◌, ◌<◌, ◌+◌, ◌-◌, ◌*◌, ◌&&◌, inl, inr, ℕ, zero, suc, cond, List, [], ◌∷◌, length, ltb, max, min, true, false, refl, ap}
+use Rattle.std.proofs.Common.{◌∙◌, sym, arith, sum_by, length-append}
 use Rattle.std.proofs.Math.Nat.{mul-le-mul_left, mul-le-mul_right}
 use Rattle.std.proofs.lemmas.Bool.{cases_Bool, cases_lt, ltb-true}
 use Rattle.std.proofs.lemmas.Bool.Decides.{nat_tests}
@@ -44,7 +45,8 @@ opened-cell cost low high p child test =
     ))
 
 -- and one that isn't
-opened-apart : (cost : ℕ → ℕ) (low high p : ℕ) (child : ℕ → Tree) → meets low high p (p + total cost (cell_of child)) ≡ false → opened_from cost low high p (cell_of child) ≡ 0
+opened-apart : (cost : ℕ → ℕ) (low high p : ℕ) (child : ℕ → Tree) → meets low high p (p + total cost (cell_of child)) ≡ false
+    → opened_from cost low high p (cell_of child) ≡ 0
 unfolding opened_from sum_upto
 opened-apart cost low high p child test =
     let T : ℕ → ℕ = λ k. total cost (child k) in
@@ -84,7 +86,8 @@ abbrev child_weight : (ℕ → ℕ) → ℕ → ℕ → ℕ → (ℕ → Tree) �
 child_weight cost low high p child k = weight cost low high (child_start cost p child k) (child k)
 
 weights-le : (cost : ℕ → ℕ) (low high p : ℕ) (child : ℕ → Tree) (k : ℕ)
-    → sum_upto (child_weight cost low high p child) k ≤ length (joined (child_between cost low high p child) k) + begins_in low p (sum_upto (λ j. total cost (child j)) k)
+    → sum_upto (child_weight cost low high p child) k ≤ length (joined (child_between cost low high p child) k) + begins_in low p
+    (sum_upto (λ j. total cost (child j)) k)
 unfolding sum_upto
 weights-le cost low high p child zero = omega arith
 weights-le cost low high p child (suc k) =
@@ -97,7 +100,8 @@ weights-le cost low high p child (suc k) =
 
 -- the children of a cell weigh no more than the cell
 weights_cell : (cost : ℕ → ℕ) (low high p : ℕ) (child : ℕ → Tree) → sum_upto (child_weight cost low high p child) 8 ≤ weight cost low high p (cell_of child)
-weights_cell cost low high p child = omega (arith, weights-le cost low high p child 8, ap length (between-cell cost low high p child), ap (begins_in low p) (total-cell cost child))
+weights_cell cost low high p child =
+    omega (arith, weights-le cost low high p child 8, ap length (between-cell cost low high p child), ap (begins_in low p) (total-cell cost child))
 
 -- bodies the first of which begins in the range have one of it
 first_inside : (cost : ℕ → ℕ) (low high p : ℕ) (xs : List ℕ) → 0 < sum_by cost xs → low ≤ p → p < high → 1 ≤ length (between cost low high p xs)
@@ -130,8 +134,10 @@ opened-le_weight cost low high (Cell a b c d e f g h) p =
     let all : ℕ = weight cost low high p (cell_of kid) in
     let below : ℕ = height (cell_of kid) - 1 in
     let each : (k : ℕ) → k < 8 → (q : ℕ) → opened_from cost low high q (kid k) ≤ height (kid k) * weight cost low high q (kid k) =
-    each_of_eight (λ k. (q : ℕ) → opened_from cost low high q (kid k) ≤ height (kid k) * weight cost low high q (kid k)) (opened-le_weight cost low high a) (opened-le_weight cost low high b)
-    (opened-le_weight cost low high c) (opened-le_weight cost low high d) (opened-le_weight cost low high e) (opened-le_weight cost low high f) (opened-le_weight cost low high g) (opened-le_weight cost low high h) in
+    each_of_eight (λ k. (q : ℕ) → opened_from cost low high q (kid k) ≤ height (kid k) * weight cost low high q (kid k)) (opened-le_weight cost low high a)
+    (opened-le_weight cost low high b)
+    (opened-le_weight cost low high c) (opened-le_weight cost low high d) (opened-le_weight cost low high e) (opened-le_weight cost low high f)
+    (opened-le_weight cost low high g) (opened-le_weight cost low high h) in
     elim (cases_Bool (meets low high p (p + total cost (cell_of kid)))) [
       | inl test ↦
           let parts : sum_upto (child_opened cost low high p kid) 8 ≤ below * sum_upto (child_weight cost low high p kid) 8 =
@@ -145,7 +151,8 @@ opened-le_weight cost low high (Cell a b c d e f g h) p =
     ]
 
 -- a tree of the whole cube: for each body that begins in the range, and once more
-pub opened_few : (cost : ℕ → ℕ) (low high : ℕ) (tree : Tree) → height tree ≤ 21 → opened_from cost low high 0 tree ≤ 21 * (length (between cost low high 0 (order tree)) + 1)
+pub opened_few : (cost : ℕ → ℕ) (low high : ℕ) (tree : Tree) → height tree ≤ 21
+    → opened_from cost low high 0 tree ≤ 21 * (length (between cost low high 0 (order tree)) + 1)
 opened_few cost low high tree tall =
     let weighs_few : weight cost low high 0 tree ≤ length (between cost low high 0 (order tree)) + 1 = grind (arith, nat_tests) in
     let low_tree = mul-le-mul_right (weight cost low high 0 tree) tall in

@@ -1,5 +1,6 @@
 -- The bodies that begin in a range of cost: among bodies in a row, among the children of a cell, and those of a zone.
-use Rattle.std.proofs.Common.{◌≡◌, ◌≢◌, ◌≤◌, ◌<◌, ◌+◌, ◌-◌, ◌*◌, ◌/◌, ◌&&◌, inl, inr, ℕ, zero, suc, List, [], ◌∷◌, ◌++◌, leb, ltb, max, min, true, false, refl, ap, ◌∙◌, sym, arith, sum_by}
+use Rattle.std.proofs.Common.{◌≡◌, ◌≢◌, ◌≤◌, ◌<◌, ◌+◌, ◌-◌, ◌*◌, ◌/◌, ◌&&◌, inl, inr, ℕ, zero, suc, List, [], ◌∷◌, ◌++◌, leb, ltb, max, min, true, false}
+use Rattle.std.proofs.Common.{refl, ap, ◌∙◌, sym, arith, sum_by}
 use Rattle.std.proofs.lemmas.Bool.{cases_Bool, cases_lt, ltb-false}
 use Rattle.std.proofs.lemmas.Bool.Decides.{nat_tests}
 use Rattle.std.proofs.lemmas.List.Sums.{sum_by-append, sum_by-cons}
@@ -21,7 +22,8 @@ unfolding between
 between-nil cost low high p = refl
 
 -- a body that begins in the range
-pub between-in : (cost : ℕ → ℕ) (low high p n : ℕ) (rest : List ℕ) → low ≤ p → p < high → between cost low high p (n ∷ rest) ≡ n ∷ between cost low high (p + cost n) rest
+pub between-in : (cost : ℕ → ℕ) (low high p n : ℕ) (rest : List ℕ) → low ≤ p → p < high
+    → between cost low high p (n ∷ rest) ≡ n ∷ between cost low high (p + cost n) rest
 unfolding between
 between-in cost low high p n rest a b = let t : leb low p && ltb p high ≡ true = grind (arith, nat_tests) in rw t
 
@@ -35,7 +37,8 @@ unfolding between
 between-above cost low high p n rest a = let t : leb low p && ltb p high ≡ false = grind (arith, nat_tests) in rw t
 
 -- two lists in turn
-pub between-append : (cost : ℕ → ℕ) (low high p : ℕ) (xs ys : List ℕ) → between cost low high p (xs ++ ys) ≡ between cost low high p xs ++ between cost low high (p + sum_by cost xs) ys
+pub between-append : (cost : ℕ → ℕ) (low high p : ℕ) (xs ys : List ℕ)
+    → between cost low high p (xs ++ ys) ≡ between cost low high p xs ++ between cost low high (p + sum_by cost xs) ys
 unfolding between
 between-append cost low high p [] ys = let e : p + sum_by cost [] ≡ p = omega arith in rw e
 between-append cost low high p (n ∷ xs) ys =
@@ -47,7 +50,8 @@ between-append cost low high p (n ∷ xs) ys =
     ]
 
 -- a span that doesn't meet the range has no body that begins there
-pub between-none : (cost : ℕ → ℕ) (low high p : ℕ) (xs : List ℕ) → ((n : ℕ) → IsIn xs n → 1 ≤ cost n) → meets low high p (p + sum_by cost xs) ≡ false → between cost low high p xs ≡ []
+pub between-none : (cost : ℕ → ℕ) (low high p : ℕ) (xs : List ℕ) → ((n : ℕ) → IsIn xs n → 1 ≤ cost n) → meets low high p (p + sum_by cost xs) ≡ false
+    → between cost low high p xs ≡ []
 between-none cost low high p [] one apart = between-nil cost low high p
 between-none cost low high p (n ∷ xs) one apart =
     let s = sum_by-cons cost n xs in
@@ -66,13 +70,15 @@ between-none cost low high p (n ∷ xs) one apart =
 cost_joined : (cost : ℕ → ℕ) (child : ℕ → Tree) (k : ℕ) → sum_by cost (joined (λ j. order (child j)) k) ≡ sum_upto (λ j. total cost (child j)) k
 unfolding sum_upto
 cost_joined cost child zero = refl
-cost_joined cost child (suc k) = omega (arith, sum_by-append cost (joined (λ j. order (child j)) k) (order (child k)), cost_joined cost child k, total-order cost (child k))
+cost_joined cost child (suc k) =
+    omega (arith, sum_by-append cost (joined (λ j. order (child j)) k) (order (child k)), cost_joined cost child k, total-order cost (child k))
 
 -- what tree k of some in a row has in the range
 abbrev pub child_between : (ℕ → ℕ) → ℕ → ℕ → ℕ → (ℕ → Tree) → ℕ → List ℕ
 child_between cost low high p child k = between cost low high (p + sum_upto (λ j. total cost (child j)) k) (order (child k))
 
-between-joined : (cost : ℕ → ℕ) (low high p : ℕ) (child : ℕ → Tree) (k : ℕ) → between cost low high p (joined (λ j. order (child j)) k) ≡ joined (child_between cost low high p child) k
+between-joined : (cost : ℕ → ℕ) (low high p : ℕ) (child : ℕ → Tree) (k : ℕ)
+    → between cost low high p (joined (λ j. order (child j)) k) ≡ joined (child_between cost low high p child) k
 between-joined cost low high p child zero = between-nil cost low high p
 between-joined cost low high p child (suc k) =
     between-append cost low high p (joined (λ j. order (child j)) k) (order (child k))
@@ -80,14 +86,16 @@ between-joined cost low high p child (suc k) =
     ∙ ap (λ q. joined (child_between cost low high p child) k ++ between cost low high (p + q) (order (child k))) (cost_joined cost child k)
 
 -- the bodies of a cell, child by child
-pub between-cell : (cost : ℕ → ℕ) (low high p : ℕ) (child : ℕ → Tree) → between cost low high p (order (cell_of child)) ≡ joined (child_between cost low high p child) 8
+pub between-cell : (cost : ℕ → ℕ) (low high p : ℕ) (child : ℕ → Tree)
+    → between cost low high p (order (cell_of child)) ≡ joined (child_between cost low high p child) 8
 between-cell cost low high p child = ap (between cost low high p) (order-cell child) ∙ between-joined cost low high p child 8
 
 -- ---- the range of a zone
 
 -- a number is below a quotient that is rounded up, or not
 above_start : (a workers p : ℕ) → 1 ≤ workers → a ≤ p * workers → (a + (workers - 1)) / workers ≤ p
-above_start a workers p some h = let less : (a + (workers - 1)) / workers < p + 1 = div_below (a + (workers - 1)) workers (p + 1) some (omega arith) in omega arith
+above_start a workers p some h =
+    let less : (a + (workers - 1)) / workers < p + 1 = div_below (a + (workers - 1)) workers (p + 1) some (omega arith) in omega arith
 
 below_start : (a workers p : ℕ) → 1 ≤ workers → p * workers < a → p < (a + (workers - 1)) / workers
 below_start a workers p some h = let more : p + 1 ≤ (a + (workers - 1)) / workers = le-div (p + 1) (a + (workers - 1)) workers some (omega arith) in omega arith
@@ -103,7 +111,8 @@ range_of workers whole w some cost = record {
   inside = λ p low high. elim (cases_lt (p * workers) (w * whole)) [
     | inl less ↦ absurd (omega (arith, below_start (w * whole) workers p some less))
     | inr from ↦ elim (cases_lt (p * workers) ((w + 1) * whole)) [
-      | inl to ↦ (let a : w ≤ p * workers / whole = le-div w (p * workers) whole cost from in let b : p * workers / whole < w + 1 = div_below (p * workers) whole (w + 1) cost to in omega arith)
+      | inl to ↦ (let a : w ≤ p * workers / whole = le-div w (p * workers) whole cost from in let b : p * workers / whole < w + 1 = div_below (p * workers)
+          whole (w + 1) cost to in omega arith)
       | inr more ↦ absurd (omega (arith, above_start ((w + 1) * whole) workers p some more))
     ]
   ];
@@ -118,7 +127,8 @@ range_of workers whole w some cost = record {
 }
 
 -- the bodies of a zone are those that begin in its range
-zone_between : (cost : ℕ → ℕ) (workers whole w low high p : ℕ) (xs : List ℕ) → IsRange workers whole w low high → zone_from cost workers whole p xs w ≡ between cost low high p xs
+zone_between : (cost : ℕ → ℕ) (workers whole w low high p : ℕ) (xs : List ℕ) → IsRange workers whole w low high
+    → zone_from cost workers whole p xs w ≡ between cost low high p xs
 zone_between cost workers whole w low high p [] range = zone_from-none cost workers whole p w ∙ sym (between-nil cost low high p)
 zone_between cost workers whole w low high p (n ∷ xs) range =
     let rest = zone_between cost workers whole w low high (p + cost n) xs range in
@@ -137,7 +147,8 @@ no_bodies cost (n ∷ xs) one z = absurd (let first : 1 ≤ cost n = one n (inl 
 
 -- a zone of a tree has the bodies of the tree that begin in its range
 pub zone_is : (cost : ℕ → ℕ) (workers w : ℕ) (tree : Tree) → ((n : ℕ) → IsIn (order tree) n → 1 ≤ cost n) → 1 ≤ workers
-    → zone cost workers w tree ≡ between cost (range_start workers (cost_of cost (order tree)) w) (range_start workers (cost_of cost (order tree)) (w + 1)) 0 (order tree)
+    → zone cost workers w tree ≡ between cost (range_start workers (cost_of cost (order tree)) w) (range_start workers (cost_of cost (order tree)) (w + 1)) 0
+    (order tree)
 zone_is cost workers w tree one some =
     let whole : ℕ = cost_of cost (order tree) in
     let low : ℕ = range_start workers whole w in
@@ -146,5 +157,6 @@ zone_is cost workers w tree one some =
       | inl cheap ↦ zone_between cost workers whole w low high 0 (order tree) (range_of workers whole w some cheap)
       | inr free ↦
           let none : order tree ≡ [] = no_bodies cost (order tree) one (omega arith) in
-          ap (λ xs. zone_from cost workers whole 0 xs w) none ∙ zone_from-none cost workers whole 0 w ∙ sym (ap (between cost low high 0) none ∙ between-nil cost low high 0)
+          ap (λ xs. zone_from cost workers whole 0 xs w) none ∙ zone_from-none cost workers whole 0 w
+          ∙ sym (ap (between cost low high 0) none ∙ between-nil cost low high 0)
     ]

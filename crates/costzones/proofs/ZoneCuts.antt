@@ -37,7 +37,8 @@ module _ {cost : ℕ → ℕ} {workers w whole low high : ℕ} {read tree : Tree
   -- the cells that are opened are the zone's
   pub cut_opened : opened_from cost low high 0 read ≡ opened cost workers w tree
   cut_opened =
-      ap (λ x. opened_from cost x high 0 read) low_of ∙ ap (λ x. opened_from cost (range_start workers (cost_of cost (order read)) w) x 0 read) high_of ∙ ap (opened cost workers w) cut.same
+      ap (λ x. opened_from cost x high 0 read) low_of ∙ ap (λ x. opened_from cost (range_start workers (cost_of cost (order read)) w) x 0 read) high_of
+      ∙ ap (opened cost workers w) cut.same
 
   -- and few
   pub cut_few : opened_from cost low high 0 read ≤ 21 * (length (zone cost workers w tree) + 1)

@@ -14,7 +14,8 @@ unfolding numbers
 zones_none its f xs e = ap (map its) e
 
 -- one zone more
-pub zones_more : {X : Type 0} (its : X → List ℕ) (f : ℕ → List ℕ) (xs next : List X) (x : X) (n : ℕ) → map its xs ≡ map f (numbers n) → next ≡ xs ++ (x ∷ []) → its x ≡ f n
+pub zones_more : {X : Type 0} (its : X → List ℕ) (f : ℕ → List ℕ) (xs next : List X) (x : X) (n : ℕ) → map its xs ≡ map f (numbers n) → next ≡ xs ++ (x ∷ [])
+    → its x ≡ f n
     → map its next ≡ map f (numbers (n + 1))
 zones_more its f xs next x n done more e =
     ap (map its) more ∙ map_push its xs x ∙ ap (λ zs. zs ++ (its x ∷ [])) done ∙ ap (λ z. map f (numbers n) ++ (z ∷ [])) e

@@ -30,7 +30,8 @@ opened_from cost low high before (Cell a b c d e f g h) =
     let at5 = at4 + total cost e in
     let at6 = at5 + total cost f in
     let at7 = at6 + total cost g in
-    if meets low high before (at7 + total cost h) then 1 + opened_from cost low high before a + opened_from cost low high at1 b + opened_from cost low high at2 c + opened_from cost low high at3 d
+    if meets low high before (at7 + total cost h) then 1 + opened_from cost low high before a + opened_from cost low high at1 b + opened_from cost low high
+    at2 c + opened_from cost low high at3 d
     + opened_from cost low high at4 e + opened_from cost low high at5 f + opened_from cost low high at6 g + opened_from cost low high at7 h
     else 0)
 

@@ -64,7 +64,8 @@ least_beyond law down s near cell some e f high = record {
 }
 
 -- the same as the code has the numbers
-pub least_near_coded : (law inside : PullLaw) (down num den : ℕ) → down ≢ 0 → down ≤ 21 → num ≢ 0 → num ≡ inside.theta_num → den ≡ inside.theta_den → inside ≡ law
+pub least_near_coded : (law inside : PullLaw) (down num den : ℕ) → down ≢ 0 → down ≤ 21 → num ≢ 0 → num ≡ inside.theta_num → den ≡ inside.theta_den
+    → inside ≡ law
     → IsLeast law down ((1 * 2 ^ (2 * down)) % 2 ^ 128 * (den * den) / (num * num) + 1)
 least_near_coded law inside down num den cell shallow some n d same =
     let num_is : num ≡ law.theta_num = n ∙ ap (λ (l : PullLaw). l.theta_num) same in
@@ -73,11 +74,13 @@ least_near_coded law inside down num den cell shallow some n d same =
     (ap (λ f. f * (den * den)) (four_pow down shallow) ∙ ap (λ q. 2 ^ down * 2 ^ down * (q * q)) den_is)
     (ap (λ t. (1 * 2 ^ (2 * down)) % 2 ^ 128 * (den * den) / (t * t)) num_is)
 
-pub least_beyond_coded : (law inside : PullLaw) (down num den : ℕ) → down ≢ 0 → down ≤ 21 → num ≢ 0 → num ≡ inside.theta_num → den ≡ inside.theta_den → inside ≡ law
+pub least_beyond_coded : (law inside : PullLaw) (down num den : ℕ) → down ≢ 0 → down ≤ 21 → num ≢ 0 → num ≡ inside.theta_num → den ≡ inside.theta_den
+    → inside ≡ law
     → 2 ^ 44 ≤ (1 * 2 ^ (2 * down)) % 2 ^ 128 * (den * den) / (num * num) → IsLeast law down (2 ^ 44)
 least_beyond_coded law inside down num den cell shallow some n d same high =
     let num_is : num ≡ law.theta_num = n ∙ ap (λ (l : PullLaw). l.theta_num) same in
     let den_is : den ≡ law.theta_den = d ∙ ap (λ (l : PullLaw). l.theta_den) same in
-    least_beyond law down ((1 * 2 ^ (2 * down)) % 2 ^ 128 * (den * den)) ((1 * 2 ^ (2 * down)) % 2 ^ 128 * (den * den) / (num * num)) cell (λ (z : law.theta_num ≡ 0). some (num_is ∙ z))
+    least_beyond law down ((1 * 2 ^ (2 * down)) % 2 ^ 128 * (den * den)) ((1 * 2 ^ (2 * down)) % 2 ^ 128 * (den * den) / (num * num)) cell
+    (λ (z : law.theta_num ≡ 0). some (num_is ∙ z))
     (ap (λ f. f * (den * den)) (four_pow down shallow) ∙ ap (λ q. 2 ^ down * 2 ^ down * (q * q)) den_is)
     (ap (λ t. (1 * 2 ^ (2 * down)) % 2 ^ 128 * (den * den) / (t * t)) num_is) high

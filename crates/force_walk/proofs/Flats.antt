@@ -1,5 +1,6 @@
 -- What the flat table of a tree is, and that a walk over it is the pull of the tree.
-use Rattle.std.proofs.Common.{ℕ, ◌+◌, ◌-◌, ◌*◌, ◌^◌, ◌<◌, ◌≤◌, ◌≡◌, ◌≢◌, zero, suc, not, eqb, eq-eqb, List, [], ◌∷◌, ◌++◌, length, drop, All, refl, sym, ap, ◌∙◌, subst, arith, inl, inr, append_assoc, length-append}
+use Rattle.std.proofs.Common.{ℕ, ◌+◌, ◌-◌, ◌*◌, ◌^◌, ◌<◌, ◌≤◌, ◌≡◌, ◌≢◌, zero, suc, not, eqb, eq-eqb, List, [], ◌∷◌, ◌++◌, length, drop, All, refl, sym, ap}
+use Rattle.std.proofs.Common.{◌∙◌, subst, arith, inl, inr, append_assoc, length-append}
 use Rattle.std.proofs.lemmas.Bool.{cases_Bool, ne_eqb}
 use Rattle.std.proofs.lemmas.Bool.Decides.{eqb_tells}
 use Rattle.std.specs.Int.{abs_diff}
@@ -39,14 +40,16 @@ flat_one m down key n = refl
 abbrev pub child_flat : Matter → ℕ → ℕ → (ℕ → Tree) → ℕ → List WalkNode
 child_flat m down key child k = flat m (down - 1) (8 * key + k) (child k)
 
-pub flat_cell : (m : Matter) (down key : ℕ) (child : ℕ → Tree) → flat m down key (cell_of child) ≡ closed m down key (cell_of child) (joined_nodes (child_flat m down key child) 8)
+pub flat_cell : (m : Matter) (down key : ℕ) (child : ℕ → Tree)
+    → flat m down key (cell_of child) ≡ closed m down key (cell_of child) (joined_nodes (child_flat m down key child) 8)
 unfolding flat
 flat_cell m down key child = refl
 
 -- ---- what holds of each node of the table
 
 -- a tree has at least as much mass as bodies
-pub heavy_tree : (m : Matter) (most : ℕ) → ((n : ℕ) → n < most → 0 < m.mass n) → (down : ℕ) (tree : Tree) → Stands most down tree → total (λ n. 1) tree ≤ mass_of m tree
+pub heavy_tree : (m : Matter) (most : ℕ) → ((n : ℕ) → n < most → 0 < m.mass n) → (down : ℕ) (tree : Tree) → Stands most down tree
+    → total (λ n. 1) tree ≤ mass_of m tree
 unfolding total Stands
 heavy_tree m most heavy down Empty stands = omega arith
 heavy_tree m most heavy down (Body n) stands = heavy n stands
@@ -64,12 +67,14 @@ heavy_tree m most heavy down (Cell a b c d e f g h) stands =
     )
 
 -- each node of the table of a tree of less than 2 ^ 40 in mass can be walked
-pub flat_laid : (m : Matter) (most : ℕ) → ((n : ℕ) → n < most → 0 < m.mass n) → (down key : ℕ) (tree : Tree) → Stands most down tree → mass_of m tree < 2 ^ 40 → down ≤ 21
+pub flat_laid : (m : Matter) (most : ℕ) → ((n : ℕ) → n < most → 0 < m.mass n) → (down key : ℕ) (tree : Tree) → Stands most down tree → mass_of m tree < 2 ^ 40
+    → down ≤ 21
     → All IsLaid (flat m down key tree)
 unfolding flat total Stands
 flat_laid m most heavy down key Empty stands light shallow = All-nil IsLaid
 flat_laid m most heavy down key (Body n) stands light shallow =
-    All-cons IsLaid (body_node m n) [] (record { heavy = heavy n stands; light = light; shallow = omega arith; no_cube = λ _. refl; long = omega arith }) (All-nil IsLaid)
+    All-cons IsLaid (body_node m n) [] (record { heavy = heavy n stands; light = light; shallow = omega arith; no_cube = λ _. refl; long = omega arith })
+    (All-nil IsLaid)
 flat_laid m most heavy down key (Cell a b c d e f g h) stands light shallow =
     let mass = heavy_tree m most heavy down (Cell a b c d e f g h) stands in
     let p0 = flat_laid m most heavy (down - 1) (8 * key + 0) a stands.2 (omega arith) (omega arith) in
@@ -82,7 +87,9 @@ flat_laid m most heavy down key (Cell a b c d e f g h) stands light shallow =
     let p7 = flat_laid m most heavy (down - 1) (8 * key + 7) h stands.9 (omega arith) (omega arith) in
     All-cons IsLaid _ _
     (record { heavy = omega (arith, stands.1, mass); light = light; shallow = shallow; no_cube = λ flat. absurd (omega (arith, stands.0)); long = omega arith })
-    (All-append IsLaid _ _ (All-append IsLaid _ _ (All-append IsLaid _ _ (All-append IsLaid _ _ (All-append IsLaid _ _ (All-append IsLaid _ _ (All-append IsLaid _ _ p0 p1) p2) p3) p4) p5) p6) p7)
+    (All-append IsLaid _ _
+    (All-append IsLaid _ _
+    (All-append IsLaid _ _ (All-append IsLaid _ _ (All-append IsLaid _ _ (All-append IsLaid _ _ (All-append IsLaid _ _ p0 p1) p2) p3) p4) p5) p6) p7)
 
 -- the table has at most a node for each body and side
 pub flat_short : (m : Matter) (most down key : ℕ) (tree : Tree) → Stands most down tree → length (flat m down key tree) ≤ (down + 1) * total (λ n. 1) tree
@@ -92,7 +99,8 @@ flat_short m most down key (Body n) stands = omega arith
 flat_short m most down key (Cell a b c d e f g h) stands =
     let deep : 1 ≤ down = stands.0 in
     let up : down - 1 + 1 ≡ down = omega arith in
-    let less : (k : ℕ) (tree : Tree) → length (flat m (down - 1) (8 * key + k) tree) ≤ (down - 1 + 1) * total (λ n. 1) tree → length (flat m (down - 1) (8 * key + k) tree) ≤ down * total (λ n. 1) tree =
+    let less : (k : ℕ) (tree : Tree) → length (flat m (down - 1) (8 * key + k) tree) ≤ (down - 1 + 1) * total (λ n. 1) tree
+    → length (flat m (down - 1) (8 * key + k) tree) ≤ down * total (λ n. 1) tree =
     λ k tree h. subst (λ (s : ℕ). length (flat m (down - 1) (8 * key + k) tree) ≤ s * total (λ n. 1) tree) up h in
     let l0 = less 0 a (flat_short m most (down - 1) (8 * key + 0) a stands.2) in
     let l1 = less 1 b (flat_short m most (down - 1) (8 * key + 1) b stands.3) in
@@ -114,11 +122,14 @@ own_distance : (s : Site) → squared_distance s s ≡ 0
 own_distance s = squared_distance-parts s s ∙ rw (no_gap s.x, no_gap s.y, no_gap s.z) refl
 
 -- eight pulls in turn are their sum
-eight_in_turn : (a b c d e f g h rest : Pull) → add_pull a (add_pull b (add_pull c (add_pull d (add_pull e (add_pull f (add_pull g (add_pull h rest))))))) ≡ add_pull (sum_of_eight a b c d e f g h) rest
+eight_in_turn : (a b c d e f g h rest : Pull)
+    → add_pull a (add_pull b (add_pull c (add_pull d (add_pull e (add_pull f (add_pull g (add_pull h rest))))))) ≡ add_pull (sum_of_eight a b c d e f g h)
+    rest
 eight_in_turn a b c d e f g h rest = same_pull _ _ _ _ _ _ _ _ (omega (arith, ints)) (omega (arith, ints)) (omega (arith, ints)) (omega arith)
 
 -- eight lists of nodes and more behind them
-eight_behind : (a b c d e f g h rest : List WalkNode) → (a ++ b ++ c ++ d ++ e ++ f ++ g ++ h) ++ rest ≡ a ++ (b ++ (c ++ (d ++ (e ++ (f ++ (g ++ (h ++ rest)))))))
+eight_behind : (a b c d e f g h rest : List WalkNode)
+    → (a ++ b ++ c ++ d ++ e ++ f ++ g ++ h) ++ rest ≡ a ++ (b ++ (c ++ (d ++ (e ++ (f ++ (g ++ (h ++ rest)))))))
 eight_behind a b c d e f g h rest = simp append_assoc
 
 -- a walk over the table of a tree and more behind it adds the pull of the tree
@@ -156,7 +167,8 @@ walked_flat law m most n apart down key (Cell a b c d e f g h) rest stands =
           let past : 1 + length below - 1 ≡ length below = omega arith in
           walked_taken law from node (below ++ rest) (test ∙ ap not taken)
           ∙ ap (add_pull (term law (mass_of m cell) from (centre m cell)))
-          (walked_past law from (below ++ rest) (1 + length below - 1) ∙ ap (λ k. W (drop k (below ++ rest))) past ∙ ap W (drop_at below rest (length below) refl))
+          (walked_past law from (below ++ rest) (1 + length below - 1) ∙ ap (λ k. W (drop k (below ++ rest))) past
+          ∙ ap W (drop_at below rest (length below) refl))
           ∙ sym (ap (λ p. add_pull p (W rest)) (pull-whole law m n down key a b c d e f g h taken))
       | inr opened ↦
           let f7 : List WalkNode = flat m (down - 1) (8 * key + 7) h ++ rest in
@@ -183,9 +195,11 @@ walked_flat law m most n apart down key (Cell a b c d e f g h) rest stands =
           let w6 = walked_flat law m most n apart (down - 1) (8 * key + 6) g f7 stands.8 in
           let w7 = walked_flat law m most n apart (down - 1) (8 * key + 7) h rest stands.9 in
           walked_opened law from node (below ++ rest) (test ∙ ap not opened)
-          ∙ ap W (eight_behind (flat m (down - 1) (8 * key + 0) a) (flat m (down - 1) (8 * key + 1) b) (flat m (down - 1) (8 * key + 2) c) (flat m (down - 1) (8 * key + 3) d)
+          ∙ ap W (eight_behind (flat m (down - 1) (8 * key + 0) a) (flat m (down - 1) (8 * key + 1) b) (flat m (down - 1) (8 * key + 2) c)
+          (flat m (down - 1) (8 * key + 3) d)
           (flat m (down - 1) (8 * key + 4) e) (flat m (down - 1) (8 * key + 5) f) (flat m (down - 1) (8 * key + 6) g) (flat m (down - 1) (8 * key + 7) h) rest)
-          ∙ w0 ∙ ap (add_pull p0) (w1 ∙ ap (add_pull p1) (w2 ∙ ap (add_pull p2) (w3 ∙ ap (add_pull p3) (w4 ∙ ap (add_pull p4) (w5 ∙ ap (add_pull p5) (w6 ∙ ap (add_pull p6) w7))))))
+          ∙ w0 ∙ ap (add_pull p0)
+          (w1 ∙ ap (add_pull p1) (w2 ∙ ap (add_pull p2) (w3 ∙ ap (add_pull p3) (w4 ∙ ap (add_pull p4) (w5 ∙ ap (add_pull p5) (w6 ∙ ap (add_pull p6) w7))))))
           ∙ eight_in_turn p0 p1 p2 p3 p4 p5 p6 p7 (W rest)
           ∙ sym (ap (λ p. add_pull p (W rest)) (pull-opened law m n down key a b c d e f g h opened))
     ]

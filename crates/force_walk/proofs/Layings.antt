@@ -1,5 +1,6 @@
 -- The nodes of a subtree are laid, child by child.
-use Rattle.std.proofs.Common.{ℕ, ◌+◌, ◌-◌, ◌*◌, ◌≡◌, List, [], ◌∷◌, ◌++◌, length, get_or, set, sym, ap, ◌∙◌, arith, add-one, append-nil, append_assoc, length-append}
+use Rattle.std.proofs.Common.{ℕ, ◌+◌, ◌-◌, ◌*◌, ◌≡◌, List, [], ◌∷◌, ◌++◌, length, get_or, set, sym, ap, ◌∙◌, arith, add-one, append-nil, append_assoc}
+use Rattle.std.proofs.Common.{length-append}
 use Rattle.std.proofs.lemmas.List.{get_or_at, set_at}
 use Rattle.octant_code.specs.Space.{Site}
 use Rattle.bh_model.specs.Moments.{Matter, centre, centre_of, mass_of}
@@ -12,11 +13,13 @@ use Rattle.force_walk.specs.declared.node.WalkNode.{WalkNode}
 use Rattle.force_walk.proofs.Flats.{child_flat, flat_cell, flat_none, flat_one, joined_nodes}
 
 -- a cell has its mass and its centre in the kept moments
-pub kept_mass : {s cell : Spot} (m : Matter) (moments : List Moment) (c : ℕ) → IsCellAt s cell → HaveMatter s.octree m moments → c ≡ cell_at cell → (moment_at moments c).mass ≡ mass_of m (tree_under s)
+pub kept_mass : {s cell : Spot} (m : Matter) (moments : List Moment) (c : ℕ) → IsCellAt s cell → HaveMatter s.octree m moments → c ≡ cell_at cell
+    → (moment_at moments c).mass ≡ mass_of m (tree_under s)
 kept_mass {s} {cell} m moments c at kept e =
     ap (λ d. (moment_at moments d).mass) e ∙ kept.mass_is (cell_at cell) at.reached ∙ ap (mass_of m) (sym at.kept)
 
-kept_centre : {s cell : Spot} (m : Matter) (moments : List Moment) (c : ℕ) → IsCellAt s cell → HaveMatter s.octree m moments → c ≡ cell_at cell → centre_of (moment_at moments c) ≡ centre m (tree_under s)
+kept_centre : {s cell : Spot} (m : Matter) (moments : List Moment) (c : ℕ) → IsCellAt s cell → HaveMatter s.octree m moments → c ≡ cell_at cell
+    → centre_of (moment_at moments c) ≡ centre m (tree_under s)
 kept_centre {s} {cell} m moments c at kept e =
     ap (λ d. centre_of (moment_at moments d)) e ∙ kept.centre_is (cell_at cell) at.reached ∙ ap (centre m) (sym at.kept)
 
@@ -31,7 +34,8 @@ kept_is {s} m moments c down key at kept e =
 pub flat_of_cell : {s cell : Spot} (m : Matter) (down key : ℕ) → IsCellAt s cell
     → flat m down key (tree_under s) ≡ closed m down key (tree_under s) (joined_nodes (child_flat m down key (child_under cell)) 8)
 flat_of_cell {s} {cell} m down key at =
-    ap (flat m down key) at.tree ∙ flat_cell m down key (child_under cell) ∙ ap (λ t. closed m down key t (joined_nodes (child_flat m down key (child_under cell)) 8)) (sym at.tree)
+    ap (flat m down key) at.tree ∙ flat_cell m down key (child_under cell)
+    ∙ ap (λ t. closed m down key t (joined_nodes (child_flat m down key (child_under cell)) 8)) (sym at.tree)
 
 -- the table of no body
 pub lay_none : {s : Spot} (m : Matter) (down key : ℕ) (nodes : List WalkNode) → IsNothingAt s → nodes ≡ nodes ++ flat m down key (tree_under s)
@@ -44,7 +48,8 @@ lay_one {s} {n} m down key nodes one at own =
     ap (λ x. nodes ++ x ∷ []) own ∙ ap (λ l. nodes ++ l) (sym (ap (flat m down key) at.tree ∙ flat_one m down key n))
 
 -- a cell's own node, before its children's
-pub lay_start : (flats : ℕ → List WalkNode) (old next : List WalkNode) (own node : WalkNode) → next ≡ old ++ own ∷ [] → own ≡ node → next ≡ (old ++ node ∷ []) ++ joined_nodes flats 0
+pub lay_start : (flats : ℕ → List WalkNode) (old next : List WalkNode) (own node : WalkNode) → next ≡ old ++ own ∷ [] → own ≡ node
+    → next ≡ (old ++ node ∷ []) ++ joined_nodes flats 0
 lay_start flats old next own node e f = e ∙ ap (λ n. old ++ n ∷ []) f ∙ sym (append-nil (old ++ node ∷ []))
 
 -- one more child's nodes
@@ -53,7 +58,8 @@ pub lay_more : {cell child : Spot} {k : ℕ} (m : Matter) (down key j : ℕ) (be
     → next ≡ before ++ joined_nodes (child_flat m down key (child_under cell)) (k + 1)
 lay_more {cell} {child} {k} m down key j before now next is same e f =
     let flats : ℕ → List WalkNode = child_flat m down key (child_under cell) in
-    f ∙ ap (λ i. now ++ flat m (down - 1) (8 * key + i) (tree_under child)) same ∙ ap (λ t. now ++ flat m (down - 1) (8 * key + k) t) is.tree ∙ ap (λ l. l ++ flats k) e
+    f ∙ ap (λ i. now ++ flat m (down - 1) (8 * key + i) (tree_under child)) same ∙ ap (λ t. now ++ flat m (down - 1) (8 * key + k) t) is.tree
+    ∙ ap (λ l. l ++ flats k) e
     ∙ append_assoc before (joined_nodes flats k) (flats k) ∙ ap (λ j. before ++ joined_nodes flats j) (sym (add-one k))
 
 -- the nodes before a cell's own, and then all from it on
@@ -86,4 +92,5 @@ pub lay_closed : {s cell : Spot} (m : Matter) (down key k at : ℕ) (old now aft
 lay_closed {s} {cell} m down key k at old now after is first all e f =
     let flats : ℕ → List WalkNode = child_flat m down key (child_under cell) in
     let own : WalkNode = cell_node m down key 1 (tree_under s) in
-    f ∙ set_skip old (joined_nodes flats 8) now own at first (e ∙ ap (λ j. (old ++ own ∷ []) ++ joined_nodes flats j) all) ∙ ap (λ l. old ++ l) (sym (flat_of_cell m down key is))
+    f ∙ set_skip old (joined_nodes flats 8) now own at first (e ∙ ap (λ j. (old ++ own ∷ []) ++ joined_nodes flats j) all)
+    ∙ ap (λ l. old ++ l) (sym (flat_of_cell m down key is))

@@ -1,5 +1,6 @@
 -- When a body goes on from a node to the next one.
-use Rattle.std.proofs.Common.{ℕ, ◌+◌, ◌-◌, ◌*◌, ◌/◌, ◌^◌, ◌<◌, ◌≤◌, ◌≡◌, ◌≢◌, ◌&&◌, Bool, true, false, not, eqb, ltb, eq-eqb, refl, sym, ap, ◌∙◌, arith, inl, inr}
+use Rattle.std.proofs.Common.{ℕ, ◌+◌, ◌-◌, ◌*◌, ◌/◌, ◌^◌, ◌<◌, ◌≤◌, ◌≡◌, ◌≢◌, ◌&&◌, Bool, true, false, not, eqb, ltb, eq-eqb, refl, sym, ap, ◌∙◌, arith, inl}
+use Rattle.std.proofs.Common.{inr}
 use Rattle.std.proofs.lemmas.Bool.{cases_Bool, ltb-true, ltb-false, ne_eqb}
 use Rattle.std.proofs.lemmas.Bool.Decides.{eqb_tells, nat_tests}
 use Rattle.std.proofs.lemmas.Nat.{mul-pow, pow-add}
@@ -45,7 +46,8 @@ and_true true = refl
 and_true false = refl
 
 -- a node nearer than the least distance is opened
-pub near_opened : (law : PullLaw) (from : Site) (node : WalkNode) (least d2 : ℕ) → IsLeast law node.down least → d2 ≡ squared_distance from node.at → d2 < 2 ^ 44 → d2 < least
+pub near_opened : (law : PullLaw) (from : Site) (node : WalkNode) (least d2 : ℕ) → IsLeast law node.down least → d2 ≡ squared_distance from node.at
+    → d2 < 2 ^ 44 → d2 < least
     → is_opened law from node ≡ true
 unfolding is_whole
 near_opened law from node least d2 is e small near =
@@ -55,8 +57,10 @@ near_opened law from node least d2 is e small near =
           let tells = is.of_cell cell.1 d2 small in
           let test : ltb d2 least ≡ true = grind (arith, nat_tests) in
           let not_far : is_far law node.down from node.at ≡ false =
-          ap (λ d. ltb (2 ^ node.down * 2 ^ node.down * (law.theta_den * law.theta_den)) (law.theta_num * law.theta_num * d)) (sym e) ∙ not_false _ (sym tells ∙ test) in
-          cell_opened law from node cell.1 ∙ ap (λ f. not (not (eqb (key_of from (21 - node.down)) node.key) && f)) not_far ∙ and_false (not (eqb (key_of from (21 - node.down)) node.key))
+          ap (λ d. ltb (2 ^ node.down * 2 ^ node.down * (law.theta_den * law.theta_den)) (law.theta_num * law.theta_num * d)) (sym e)
+          ∙ not_false _ (sym tells ∙ test) in
+          cell_opened law from node cell.1 ∙ ap (λ f. not (not (eqb (key_of from (21 - node.down)) node.key) && f)) not_far
+          ∙ and_false (not (eqb (key_of from (21 - node.down)) node.key))
     ]
 
 -- any other is opened exactly where the body is in its cube
@@ -69,20 +73,23 @@ far_opened law from node least d2 own laid is own_is e small far =
       | inl body ↦
           let level : 21 - node.down ≡ 21 = omega (arith, body.1) in
           let positive = key-positive from 21 in
-          let keys : own / 2 ^ (3 * node.down) ≢ node.key = λ (same : own / 2 ^ (3 * node.down) ≡ node.key). omega (arith, key, ap (key_of from) level, positive, laid.no_cube body.1) in
+          let keys : own / 2 ^ (3 * node.down) ≢ node.key = λ (same : own / 2 ^ (3 * node.down) ≡ node.key). omega
+          (arith, key, ap (key_of from) level, positive, laid.no_cube body.1) in
           let apart : squared_distance from node.at ≢ 0 = λ (same : squared_distance from node.at ≡ 0). omega (arith, is.positive) in
           ne_eqb (own / 2 ^ (3 * node.down)) node.key keys ∙ sym (ne_eqb (squared_distance from node.at) 0 apart) ∙ sym (body_opened law from node body.1)
       | inr cell ↦
           let tells = is.of_cell cell.1 d2 small in
           let test : ltb d2 least ≡ false = grind (arith, nat_tests) in
           let is_it_far : is_far law node.down from node.at ≡ true =
-          ap (λ d. ltb (2 ^ node.down * 2 ^ node.down * (law.theta_den * law.theta_den)) (law.theta_num * law.theta_num * d)) (sym e) ∙ not_true _ (sym tells ∙ test) in
+          ap (λ d. ltb (2 ^ node.down * 2 ^ node.down * (law.theta_den * law.theta_den)) (law.theta_num * law.theta_num * d)) (sym e)
+          ∙ not_true _ (sym tells ∙ test) in
           ap (λ k. eqb k node.key) key ∙ sym (and_true (eqb (key_of from (21 - node.down)) node.key))
           ∙ ap (λ f. not (not (eqb (key_of from (21 - node.down)) node.key) && f)) (sym is_it_far) ∙ sym (cell_opened law from node cell.1)
     ]
 
 -- a node that is not opened is apart from the body
-pub taken_apart : (law : PullLaw) (from : Site) (node : WalkNode) (least d2 : ℕ) → IsLeast law node.down least → d2 ≡ squared_distance from node.at → d2 < 2 ^ 44
+pub taken_apart : (law : PullLaw) (from : Site) (node : WalkNode) (least d2 : ℕ) → IsLeast law node.down least → d2 ≡ squared_distance from node.at
+    → d2 < 2 ^ 44
     → is_opened law from node ≡ false → 0 < d2
 taken_apart law from node least d2 is e small taken =
     elim (cases_Bool (ltb d2 least)) [

@@ -1,5 +1,6 @@
 -- Pulls are put at their bodies' numbers.
-use Rattle.std.proofs.Common.{ℕ, ◌+◌, ◌<◌, ◌≤◌, ◌≡◌, List, All, Any, Contains, length, get_or, set, sym, ap, ◌∙◌, subst, arith, inl, inr, below_more, get_or-set_other, get_or-set_same}
+use Rattle.std.proofs.Common.{ℕ, ◌+◌, ◌<◌, ◌≤◌, ◌≡◌, List, All, Any, Contains, length, get_or, set, sym, ap, ◌∙◌, subst, arith, inl, inr, below_more}
+use Rattle.std.proofs.Common.{get_or-set_other, get_or-set_same}
 use Rattle.std.proofs.lemmas.Bool.{cases_eq}
 use Rattle.std.proofs.lemmas.List.{ext_get_or, get_or-map, length-map}
 use Rattle.std.proofs.lemmas.List.Elements.{All-map}
@@ -46,13 +47,15 @@ put_more law bodies nodes before after zone i n body p put is within long found 
     let right : p ≡ walked law (m.site n) nodes 0 = e ∙ ap (λ s. walked law s nodes 0) point in
     let P : ℕ → Type 0 = λ j. IsPlaced law m nodes (set after n p) j in
     record {
-      told = below_more _ _ (λ k l. placed_set law m nodes after n p inside right (get_or zone k 0) (put.told k l)) (subst P is (get_or-set_same after n p no_pull inside ∙ right));
+      told = below_more _ _ (λ k l. placed_set law m nodes after n p inside right (get_or zone k 0) (put.told k l))
+          (subst P is (get_or-set_same after n p no_pull inside ∙ right));
       kept = λ k h. placed_set law m nodes after n p inside right k (put.kept k h);
     }
 
 -- a list in which each pull stands at its body's number
 pub all_placed : (law : PullLaw) (m : Matter) (count : ℕ) (tree : Tree) (nodes : List WalkNode) (list : List Pull) → length list ≡ count
-    → ((n : ℕ) → n < count → IsPlaced law m nodes list n) → ((n : ℕ) → n < count → walked law (m.site n) nodes 0 ≡ pull law m n tree) → list ≡ pulls law m count tree
+    → ((n : ℕ) → n < count → IsPlaced law m nodes list n) → ((n : ℕ) → n < count → walked law (m.site n) nodes 0 ≡ pull law m n tree)
+    → list ≡ pulls law m count tree
 all_placed law m count tree nodes list long placed right =
     let one : ℕ → Pull = λ n. pull law m n tree in
     let size = length-map (numbers count) one in

@@ -29,15 +29,18 @@ share-low : (scale divisor rate gap unit q : ℕ) → rate * divisor ≤ scale *
 share-low scale divisor rate gap unit q low share some =
     let one : q * unit * divisor ≤ rate * gap * divisor = mul-le (q * unit) divisor (rate * gap) divisor share (omega arith) in
     let two : rate * divisor * gap ≤ scale * unit * gap = mul-le (rate * divisor) gap (scale * unit) gap low (omega arith) in
-    let e : q * divisor * unit ≤ scale * gap * unit = omega (arith, mul_right_comm q unit divisor, mul_right_comm rate gap divisor, mul_right_comm scale unit gap) in
+    let e : q * divisor * unit ≤ scale * gap * unit = omega
+    (arith, mul_right_comm q unit divisor, mul_right_comm rate gap divisor, mul_right_comm scale unit gap) in
     let next : q * divisor * unit < (scale * gap + 1) * unit = omega arith in
     omega (arith, factor-out (q * divisor) (scale * gap + 1) unit next)
 
 -- and what is above it
-share-high : (scale divisor rate gap unit slack q : ℕ) → scale * unit < (rate + slack) * divisor → (rate + slack) * gap ≤ (q + 1) * unit → 0 < gap → scale * gap < (q + 1) * divisor
+share-high : (scale divisor rate gap unit slack q : ℕ) → scale * unit < (rate + slack) * divisor → (rate + slack) * gap ≤ (q + 1) * unit → 0 < gap
+    → scale * gap < (q + 1) * divisor
 share-high scale divisor rate gap unit slack q high share some =
     let one : (rate + slack) * gap * divisor ≤ (q + 1) * unit * divisor = mul-le ((rate + slack) * gap) divisor ((q + 1) * unit) divisor share (omega arith) in
-    let two : (scale * unit + 1) * gap ≤ (rate + slack) * divisor * gap = mul-le (scale * unit + 1) gap ((rate + slack) * divisor) gap (omega arith) (omega arith) in
+    let two : (scale * unit + 1) * gap ≤ (rate + slack) * divisor * gap = mul-le (scale * unit + 1) gap ((rate + slack) * divisor) gap (omega arith)
+    (omega arith) in
     let e : scale * gap * unit < (q + 1) * divisor * unit =
     omega (arith, mul_right_comm scale unit gap, mul_right_comm (rate + slack) gap divisor, mul_right_comm (q + 1) unit divisor) in
     factor-out (scale * gap) ((q + 1) * divisor) unit e
@@ -60,7 +63,8 @@ pub component-shared-up : (scale from to divisor rate gap unit slack : ℕ) → 
     → pos (rate * gap / unit) ≡ component scale from to divisor
 component-shared-up scale from to divisor rate gap unit slack up is_gap low high sure some positive =
     let g : gap ≡ to - from = omega arith in
-    ap pos (share-is scale divisor rate gap unit slack low high sure some positive) ∙ ap (λ n. pos (scale * n / divisor)) g ∙ sym (component-up scale from to divisor up)
+    ap pos (share-is scale divisor rate gap unit slack low high sure some positive) ∙ ap (λ n. pos (scale * n / divisor)) g
+    ∙ sym (component-up scale from to divisor up)
 
 -- and downwards
 pub component-shared-down : (scale from to divisor rate gap unit slack : ℕ) → to ≤ from → gap ≡ abs_diff from to → rate * divisor ≤ scale * unit
@@ -77,7 +81,8 @@ pub component-shared : (scale from to divisor rate gap unit slack : ℕ) → gap
     → cond (leb from to) (pos (rate * gap / unit)) (neg_ℤ (pos (rate * gap / unit))) ≡ component scale from to divisor
 component-shared scale from to divisor rate gap unit slack is_gap low high sure some positive =
     elim (cases_lt to from) [
-      | inl down ↦ let q = component-shared-down scale from to divisor rate gap unit slack (omega arith) is_gap low high sure some positive in grind (arith, nat_tests)
+      | inl down ↦ let q = component-shared-down scale from to divisor rate gap unit slack (omega arith) is_gap low high sure some positive in grind
+          (arith, nat_tests)
       | inr up ↦ let q = component-shared-up scale from to divisor rate gap unit slack up is_gap low high sure some positive in grind (arith, nat_tests)
     ]
 
@@ -101,7 +106,8 @@ root_fits n r h low =
     ]
 
 -- a squared distance of points of the cube, with softening
-pub reach : (d2 eps2 : ℕ) (from to s t : Site) → from ≡ s → to ≡ t → IsInCube from → IsInCube to → d2 ≡ squared_distance s t → eps2 < 2 ^ 44 → d2 + eps2 < 2 ^ 45
+pub reach : (d2 eps2 : ℕ) (from to s t : Site) → from ≡ s → to ≡ t → IsInCube from → IsInCube to → d2 ≡ squared_distance s t → eps2 < 2 ^ 44
+    → d2 + eps2 < 2 ^ 45
 reach d2 eps2 from to s t e f p q is soft =
     let near : squared_distance s t < 2 ^ 44 =
     subst (λ u. squared_distance s u < 2 ^ 44) f (subst (λ u. squared_distance u to < 2 ^ 44) e (squared_distance-small from to p q)) in
@@ -120,5 +126,6 @@ one-term law l mass from s to t scale d2 r divisor x y z law_is from_is to_is sc
     ∙ ap (λ k. one_pull x k (to_z w128 (of_z w128 z))) (stays y q_fits)
     ∙ ap (λ k. one_pull x y k) (stays z v_fits)
     ∙ term-from law mass from to scale r2 r x y z scale_is (ap (λ k. k + law.eps2) start) r_is
-    (p ∙ ap (λ d. component scale from.x to.x d) divisor_is) (q ∙ ap (λ d. component scale from.y to.y d) divisor_is) (v ∙ ap (λ d. component scale from.z to.z d) divisor_is)
+    (p ∙ ap (λ d. component scale from.x to.x d) divisor_is) (q ∙ ap (λ d. component scale from.y to.y d) divisor_is)
+    (v ∙ ap (λ d. component scale from.z to.z d) divisor_is)
     ∙ ap (λ k. term k mass from to) law_is ∙ ap (λ k. term l mass k to) from_is ∙ ap (λ k. term l mass s k) to_is

@@ -33,7 +33,8 @@ abbrev sites_long : (bodies : List Body) → length (sites_of bodies) ≡ length
 sites_long bodies = length-map bodies (λ (b : Body). b.at)
 
 points_of : (bodies : List Body) (o : Stored) → IsScene bodies o → ArePoints (sites_of bodies)
-points_of bodies o scene = let long = sites_long bodies in record { few = omega (arith, scene.rule.few); apart = scene.rule.apart; in_cube = scene.rule.in_cube }
+points_of bodies o scene =
+    let long = sites_long bodies in record { few = omega (arith, scene.rule.few); apart = scene.rule.apart; in_cube = scene.rule.in_cube }
 
 -- each cell has a cube to divide and two bodies
 scene_stands : (bodies : List Body) (o : Stored) → IsScene bodies o → Stands (length bodies) 21 (tree_of o)

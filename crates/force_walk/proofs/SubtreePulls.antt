@@ -37,16 +37,19 @@ abbrev IsBounded : PullLaw → Matter → Tree → Pull → Type 0
 IsBounded law m tree p = IsSmall (law.g * mass_of m tree) (total (λ n. 1) tree) p
 
 -- the same for the first children of a cell
-upto_bounded : (law : PullLaw) (m : Matter) (n down key : ℕ) (child : ℕ → Tree) (k : ℕ) → k ≤ 8 → ((j : ℕ) → j < 8 → IsBounded law m (child j) (child_pull law m n down key child j))
+upto_bounded : (law : PullLaw) (m : Matter) (n down key : ℕ) (child : ℕ → Tree) (k : ℕ) → k ≤ 8
+    → ((j : ℕ) → j < 8 → IsBounded law m (child j) (child_pull law m n down key child j))
     → IsBounded law m (cell_of child) (pull_upto (child_pull law m n down key child) k)
 upto_bounded law m n down key child k l each =
     let b : ℕ → ℕ = λ j. law.g * mass_of m (child j) in
     let c : ℕ → ℕ = λ j. total (λ n. 1) (child j) in
     let scaled = sum_scaled law.g (λ j. mass_of m (child j)) 8 in
-    small_more _ _ _ _ _ (omega (arith, scaled, ap (λ y. law.g * y) (total-cell m.mass child), sum_upto-le b k 8 l)) (omega (arith, total-cell (λ n. 1) child, sum_upto-le c k 8 l))
+    small_more _ _ _ _ _ (omega (arith, scaled, ap (λ y. law.g * y) (total-cell m.mass child), sum_upto-le b k 8 l))
+    (omega (arith, total-cell (λ n. 1) child, sum_upto-le c k 8 l))
     (upto_small (child_pull law m n down key child) b c k (λ j i. each j (omega arith)))
 
-pub pull_bounded : (law : PullLaw) (m : Matter) (most n : ℕ) → StandsApart m most n → (tree : Tree) (down key : ℕ) → Stands most down tree → IsBounded law m tree (pull_from law m n down key tree)
+pub pull_bounded : (law : PullLaw) (m : Matter) (most n : ℕ) → StandsApart m most n → (tree : Tree) (down key : ℕ) → Stands most down tree
+    → IsBounded law m tree (pull_from law m n down key tree)
 unfolding Stands total
 pull_bounded law m most n apart Empty down key stands = rw (pull-empty law m n down key) (small_none _ _)
 pull_bounded law m most n apart (Body j) down key stands =
@@ -66,7 +69,8 @@ pull_bounded law m most n apart (Cell a b c d e f g h) down key stands =
       | inl taken ↦
           rw (pull-whole law m n down key a b c d e f g h taken)
           (small_more _ _ _ _ _ (omega arith) (omega (arith, stands.1))
-          (term-small law (mass_of m (cell_of kid)) (m.site n) (centre m (cell_of kid)) (omega (arith, whole_apart law down key (m.site n) (centre m (cell_of kid)) taken))))
+          (term-small law (mass_of m (cell_of kid)) (m.site n) (centre m (cell_of kid))
+          (omega (arith, whole_apart law down key (m.site n) (centre m (cell_of kid)) taken))))
       | inr opened ↦ rw (pull-opened law m n down key a b c d e f g h opened) (upto_bounded law m n down key kid 8 (omega arith) each)
     ]
 
@@ -78,24 +82,33 @@ pull_none law m n down key at = sym (ap (pull_from law m n down key) at.tree ∙
 pub pull_own : {s : Spot} {j : ℕ} (law : PullLaw) (m : Matter) (n down key : ℕ) → IsBodyAt s j → j ≡ n → no_pull ≡ pull_from law m n down key (tree_under s)
 pull_own {s} {j} law m n down key at own = sym (ap (pull_from law m n down key) at.tree ∙ pull-own law m n down key j own)
 
-pub pull_other : {s : Spot} {j : ℕ} (law : PullLaw) (m : Matter) (n down key : ℕ) (from : Site) (one : WalkNode) (p : Pull) → IsBodyAt s j → j ≢ n → from ≡ m.site n → one ≡ body_node m j
+pub pull_other : {s : Spot} {j : ℕ} (law : PullLaw) (m : Matter) (n down key : ℕ) (from : Site) (one : WalkNode) (p : Pull) → IsBodyAt s j → j ≢ n
+    → from ≡ m.site n → one ≡ body_node m j
     → p ≡ term law one.mass from one.at → p ≡ pull_from law m n down key (tree_under s)
 pull_other {s} {j} law m n down key from one p at other f own q =
     q ∙ ap (λ y. term law one.mass y one.at) f ∙ ap (λ (w : WalkNode). term law w.mass (m.site n) w.at) own
     ∙ sym (ap (pull_from law m n down key) at.tree ∙ pull-other law m n down key j other)
 
 -- the node of another body is apart
-pub body_apart : (law : PullLaw) (bodies : List SceneBody) (n j : ℕ) (from : Site) (one : WalkNode) → AreBodies bodies → n < length bodies → j < length bodies → j ≢ n
+pub body_apart : (law : PullLaw) (bodies : List SceneBody) (n j : ℕ) (from : Site) (one : WalkNode) → AreBodies bodies → n < length bodies → j < length bodies
+    → j ≢ n
     → from ≡ (matter_of bodies).site n → one ≡ body_node (matter_of bodies) j → 0 < squared_distance from one.at + law.eps2
 body_apart law bodies n j from one rule n_in j_in other f own =
     let away = (bodies_apart bodies n rule n_in).apart j j_in other in
     omega (arith, away, ap (λ s. squared_distance s one.at) f, ap (λ (w : WalkNode). squared_distance ((matter_of bodies).site n) w.at) own)
 
 -- and can be walked
-pub body_laid : {m : Matter} {most down key : ℕ} {s : Spot} {j : ℕ} (one : WalkNode) → IsBodyAt s j → IsTreeOfCube m most down key (tree_under s) → one ≡ body_node m j → IsLaid one
+pub body_laid : {m : Matter} {most down key : ℕ} {s : Spot} {j : ℕ} (one : WalkNode) → IsBodyAt s j → IsTreeOfCube m most down key (tree_under s)
+    → one ≡ body_node m j → IsLaid one
 body_laid {m} {most} {down} {key} {s} {j} one at cube own =
     subst IsLaid (sym own)
-    (record { heavy = cube.heavy j (cube_body at cube); light = omega (arith, cube.light, total_one m.mass (tree_under s) j at.tree); shallow = omega arith; no_cube = λ _. refl; long = omega arith })
+    (record {
+      heavy = cube.heavy j (cube_body at cube);
+      light = omega (arith, cube.light, total_one m.mass (tree_under s) j at.tree);
+      shallow = omega arith;
+      no_cube = λ _. refl;
+      long = omega arith;
+    })
 
 -- ---- a cell
 
@@ -104,7 +117,13 @@ module _ {m : Matter} {most down key : ℕ} {s cell : Spot} (at : IsCellAt s cel
   pub cell_laid : IsLaid own
   cell_laid =
       subst IsLaid (sym is)
-      (record { heavy = cube_massive at cube; light = cube.light; shallow = cube.shallow; no_cube = λ flat. absurd (omega (arith, cube_deep at cube)); long = omega arith })
+      (record {
+        heavy = cube_massive at cube;
+        light = cube.light;
+        shallow = cube.shallow;
+        no_cube = λ flat. absurd (omega (arith, cube_deep at cube));
+        long = omega arith;
+      })
 
   -- it is opened exactly where the cell of the tree is not taken whole
   opened_is : (law : PullLaw) (from : Site) → is_opened law from own ≡ not (is_whole law down key from (centre m (tree_under s)))
@@ -114,15 +133,22 @@ module _ {m : Matter} {most down key : ℕ} {s cell : Spot} (at : IsCellAt s cel
   -- one that isn't is apart
   pub cell_apart : (law : PullLaw) (from : Site) → is_opened law from own ≡ false → 0 < squared_distance from own.at + law.eps2
   cell_apart law from taken =
-      omega (arith, whole_apart law down key from (centre m (tree_under s)) (not_true _ (sym (opened_is law from) ∙ taken)), ap (λ (w : WalkNode). squared_distance from w.at) is)
+      omega (
+        arith,
+        whole_apart law down key from (centre m (tree_under s)) (not_true _ (sym (opened_is law from) ∙ taken)),
+        ap
+            (λ (w : WalkNode). squared_distance from w.at) is,
+      )
 
   -- and its term is the pull
   pub pull_taken : (law : PullLaw) (n : ℕ) (from : Site) (p : Pull) → from ≡ m.site n → is_opened law from own ≡ false → p ≡ term law own.mass from own.at
       → p ≡ pull_from law m n down key (tree_under s)
   pull_taken law n from p f taken q =
       let child : ℕ → Tree = child_under cell in
-      let whole : is_whole law down key (m.site n) (centre m (tree_under s)) ≡ true = not_true _ (sym (opened_is law (m.site n)) ∙ ap (λ y. is_opened law y own) (sym f) ∙ taken) in
-      let P : Tree → Type 0 = λ t. is_whole law down key (m.site n) (centre m t) ≡ true → pull_from law m n down key t ≡ term law (mass_of m t) (m.site n) (centre m t) in
+      let whole : is_whole law down key (m.site n) (centre m (tree_under s)) ≡ true = not_true _
+      (sym (opened_is law (m.site n)) ∙ ap (λ y. is_opened law y own) (sym f) ∙ taken) in
+      let P : Tree → Type 0 = λ t. is_whole law down key (m.site n) (centre m t) ≡ true
+      → pull_from law m n down key t ≡ term law (mass_of m t) (m.site n) (centre m t) in
       q ∙ ap (λ y. term law own.mass y own.at) f ∙ ap (λ (w : WalkNode). term law w.mass (m.site n) w.at) is
       ∙ sym (subst P (sym at.tree) (pull-whole law m n down key (child 0) (child 1) (child 2) (child 3) (child 4) (child 5) (child 6) (child 7)) whole)
 
@@ -131,8 +157,10 @@ module _ {m : Matter} {most down key : ℕ} {s cell : Spot} (at : IsCellAt s cel
       → sum ≡ pull_upto (child_pull law m n down key (child_under cell)) k → sum ≡ pull_from law m n down key (tree_under s)
   pull_opened law n k from sum f opened all added =
       let child : ℕ → Tree = child_under cell in
-      let not_whole : is_whole law down key (m.site n) (centre m (tree_under s)) ≡ false = not_false _ (sym (opened_is law (m.site n)) ∙ ap (λ y. is_opened law y own) (sym f) ∙ opened) in
-      let P : Tree → Type 0 = λ t. is_whole law down key (m.site n) (centre m t) ≡ false → pull_from law m n down key t ≡ pull_upto (child_pull law m n down key child) 8 in
+      let not_whole : is_whole law down key (m.site n) (centre m (tree_under s)) ≡ false = not_false _
+      (sym (opened_is law (m.site n)) ∙ ap (λ y. is_opened law y own) (sym f) ∙ opened) in
+      let P : Tree → Type 0 = λ t. is_whole law down key (m.site n) (centre m t) ≡ false
+      → pull_from law m n down key t ≡ pull_upto (child_pull law m n down key child) 8 in
       added ∙ ap (pull_upto (child_pull law m n down key child)) all
       ∙ sym (subst P (sym at.tree) (pull-opened law m n down key (child 0) (child 1) (child 2) (child 3) (child 4) (child 5) (child 6) (child 7)) not_whole)
 
@@ -144,12 +172,14 @@ pub record Fits (sum part : Pull) : Type 0 where
 
 module _ {m : Matter} {most down key : ℕ} {s cell child : Spot} {k : ℕ} (at : IsCellAt s cell) (cube : IsTreeOfCube m most down key (tree_under s)) (is : IsChildOf cell k child) (small : k < 8) where
   -- the pull of a child
-  pub child_part : (law : PullLaw) (n j : ℕ) (part : Pull) → j ≡ k → part ≡ pull_from law m n (down - 1) (8 * key + j) (tree_under child) → part ≡ child_pull law m n down key (child_under cell) k
+  pub child_part : (law : PullLaw) (n j : ℕ) (part : Pull) → j ≡ k → part ≡ pull_from law m n (down - 1) (8 * key + j) (tree_under child)
+      → part ≡ child_pull law m n down key (child_under cell) k
   child_part law n j part same e =
       e ∙ ap (λ i. pull_from law m n (down - 1) (8 * key + i) (tree_under child)) same ∙ ap (pull_from law m n (down - 1) (8 * key + k)) is.tree
 
   -- it fits beside the sum so far
-  pub parts_fit : (law : PullLaw) (n : ℕ) (sum part : Pull) → IsPullLaw law → StandsApart m most n → sum ≡ pull_upto (child_pull law m n down key (child_under cell)) k
+  pub parts_fit : (law : PullLaw) (n : ℕ) (sum part : Pull) → IsPullLaw law → StandsApart m most n
+      → sum ≡ pull_upto (child_pull law m n down key (child_under cell)) k
       → part ≡ child_pull law m n down key (child_under cell) k → Fits sum part
   unfolding Stands
   parts_fit law n sum part rule apart sum_is part_is =
@@ -158,9 +188,12 @@ module _ {m : Matter} {most down key : ℕ} {s cell child : Spot} {k : ℕ} (at 
       let stands : Stands most down (cell_of child_of) = subst (Stands most down) at.tree cube.stands in
       let each : (j : ℕ) → j < 8 → IsBounded law m (child_of j) (pulls j) =
       each_of_eight (λ j. IsBounded law m (child_of j) (pulls j)) (pull_bounded law m most n apart (child_of 0) (down - 1) (8 * key + 0) stands.2)
-      (pull_bounded law m most n apart (child_of 1) (down - 1) (8 * key + 1) stands.3) (pull_bounded law m most n apart (child_of 2) (down - 1) (8 * key + 2) stands.4)
-      (pull_bounded law m most n apart (child_of 3) (down - 1) (8 * key + 3) stands.5) (pull_bounded law m most n apart (child_of 4) (down - 1) (8 * key + 4) stands.6)
-      (pull_bounded law m most n apart (child_of 5) (down - 1) (8 * key + 5) stands.7) (pull_bounded law m most n apart (child_of 6) (down - 1) (8 * key + 6) stands.8)
+      (pull_bounded law m most n apart (child_of 1) (down - 1) (8 * key + 1) stands.3)
+      (pull_bounded law m most n apart (child_of 2) (down - 1) (8 * key + 2) stands.4)
+      (pull_bounded law m most n apart (child_of 3) (down - 1) (8 * key + 3) stands.5)
+      (pull_bounded law m most n apart (child_of 4) (down - 1) (8 * key + 4) stands.6)
+      (pull_bounded law m most n apart (child_of 5) (down - 1) (8 * key + 5) stands.7)
+      (pull_bounded law m most n apart (child_of 6) (down - 1) (8 * key + 6) stands.8)
       (pull_bounded law m most n apart (child_of 7) (down - 1) (8 * key + 7) stands.9) in
       let before = upto_bounded law m n down key child_of k (omega arith) each in
       let after = upto_bounded law m n down key child_of (suc k) (omega arith) each in
@@ -171,6 +204,7 @@ module _ {m : Matter} {most down key : ℕ} {s cell child : Spot} {k : ℕ} (at 
       let less = mul-le-mul_left law.g (child_total m.mass child_of k small) in
       record {
         one = subst (λ (p : Pull). IsSmall (2 ^ 120) (2 ^ 32) p) (sym sum_is) (small_more _ _ _ _ _ (omega arith) (omega arith) before);
-        other = subst (λ (p : Pull). IsSmall (2 ^ 120) (2 ^ 32) p) (sym part_is) (small_more _ _ _ _ _ (omega arith) (omega (arith, child_total (λ n. 1) child_of k small)) one);
+        other = subst (λ (p : Pull). IsSmall (2 ^ 120) (2 ^ 32) p) (sym part_is)
+            (small_more _ _ _ _ _ (omega arith) (omega (arith, child_total (λ n. 1) child_of k small)) one);
         few = omega (arith, after.met, ap (λ (p : Pull). p.met) sum_is, ap (λ (p : Pull). p.met) part_is);
       }

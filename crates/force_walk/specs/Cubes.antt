@@ -4,7 +4,8 @@ use Rattle.bh_model.specs.Moments.{Matter, mass_of, total}
 use Rattle.bh_model.specs.Standing.{Stands}
 use Rattle.bh_model.specs.Trees.{Tree}
 
--- the tree of a cube whose side is 2 ^ down, and whose key leaves room for those of the cubes in it: its bodies are some of so many with masses, and they are light and few
+-- the tree of a cube whose side is 2 ^ down, and whose key leaves room for those of the cubes in it: its bodies are some of so many with masses, and they are
+-- light and few
 pub record IsTreeOfCube (m : Matter) (most down key : ℕ) (tree : Tree) : Type 0 where
   pub stands : Stands most down tree
   pub shallow : down ≤ 21

@@ -1,5 +1,6 @@
 -- The flat table of an octree, and how a body walks it.
-use Rattle.std.specs.Prelude.{ℕ, ◌+◌, ◌-◌, ◌*◌, ◌^◌, ◌<◌, ◌≤◌, ◌≡◌, ◌≢◌, zero, suc, Bool, not, nat_eq, nat_lt, List, [], ◌∷◌, ◌++◌, length, if◌then◌else◌, slice_index}
+use Rattle.std.specs.Prelude.{ℕ, ◌+◌, ◌-◌, ◌*◌, ◌^◌, ◌<◌, ◌≤◌, ◌≡◌, ◌≢◌, zero, suc, Bool, not, nat_eq, nat_lt, List, [], ◌∷◌, ◌++◌, length, if◌then◌else◌}
+use Rattle.std.specs.Prelude.{slice_index}
 use Rattle.octant_code.specs.Space.{Site, origin, squared_distance}
 use Rattle.bh_model.specs.Moments.{Matter, centre, centre_of, mass_of}
 use Rattle.bh_model.specs.Pulls.{PullLaw, add_pull, is_whole, no_pull, term}

@@ -47,7 +47,8 @@ moment_one m cost t n e =
 pub moment_listed : (bodies : List BodyOf) (costs : List ℕ) (t : Tree) (n : ℕ) (body : BodyOf) → t ≡ Body n → n < length bodies → body ≡ body_at bodies n
     → moment_of_body body.mass body.at (cost_at costs n) ≡ moment (matter_of bodies) (cost_at costs) t
 moment_listed bodies costs t n body e within is =
-    ap (λ (b : BodyOf). moment_of_body b.mass b.at (cost_at costs n)) is ∙ ap (λ (s : Site). moment_of_body (body_at bodies n).mass s (cost_at costs n)) (sym (site_of_body bodies n within))
+    ap (λ (b : BodyOf). moment_of_body b.mass b.at (cost_at costs n)) is
+    ∙ ap (λ (s : Site). moment_of_body (body_at bodies n).mass s (cost_at costs n)) (sym (site_of_body bodies n within))
     ∙ sym (moment_one (matter_of bodies) (cost_at costs) t n e)
 
 -- products of bodies in the cube
@@ -67,7 +68,8 @@ sum_in_cube a b p q = record { x = omega (arith, p.x, q.x); y = omega (arith, p.
 -- the sums over the first k of some trees
 abbrev pub moment_upto : Matter → (ℕ → ℕ) → (ℕ → Tree) → ℕ → Moment
 moment_upto m cost child k =
-    made (sum_upto (λ j. total m.mass (child j)) k) (sum_upto (λ j. total (λ n. m.mass n * (m.site n).x) (child j)) k) (sum_upto (λ j. total (λ n. m.mass n * (m.site n).y) (child j)) k)
+    made (sum_upto (λ j. total m.mass (child j)) k) (sum_upto (λ j. total (λ n. m.mass n * (m.site n).x) (child j)) k)
+    (sum_upto (λ j. total (λ n. m.mass n * (m.site n).y) (child j)) k)
     (sum_upto (λ j. total (λ n. m.mass n * (m.site n).z) (child j)) k) (sum_upto (λ j. total (λ n. 1) (child j)) k) (sum_upto (λ j. total cost (child j)) k)
 
 -- no tree yet
@@ -76,9 +78,11 @@ unfolding sum_upto
 upto_none m cost child = refl
 
 -- one tree more
-pub upto_more : (m : Matter) (cost : ℕ → ℕ) (child : ℕ → Tree) (k : ℕ) → add_moment (moment_upto m cost child k) (moment m cost (child k)) ≡ moment_upto m cost child (k + 1)
+pub upto_more : (m : Matter) (cost : ℕ → ℕ) (child : ℕ → Tree) (k : ℕ)
+    → add_moment (moment_upto m cost child k) (moment m cost (child k)) ≡ moment_upto m cost child (k + 1)
 upto_more m cost child k =
-    moment_parts _ _ _ _ _ _ _ _ _ _ _ _ (sym (sum_upto-more (λ j. total m.mass (child j)) k)) (sym (sum_upto-more (λ j. total (λ n. m.mass n * (m.site n).x) (child j)) k))
+    moment_parts _ _ _ _ _ _ _ _ _ _ _ _ (sym (sum_upto-more (λ j. total m.mass (child j)) k))
+    (sym (sum_upto-more (λ j. total (λ n. m.mass n * (m.site n).x) (child j)) k))
     (sym (sum_upto-more (λ j. total (λ n. m.mass n * (m.site n).y) (child j)) k)) (sym (sum_upto-more (λ j. total (λ n. m.mass n * (m.site n).z) (child j)) k))
     (sym (sum_upto-more (λ j. total (λ n. 1) (child j)) k)) (sym (sum_upto-more (λ j. total cost (child j)) k))
 
@@ -103,18 +107,42 @@ record AreSumsSmall (a : Moment) : Type 0 where
   few : a.bodies ≤ 65536
   cheap : a.cost ≤ 2 ^ 32
 
-small_upto : (m : Matter) (cost : ℕ → ℕ) (child : ℕ → Tree) (k : ℕ) → k < 8 → AreSmall m cost (cell_of child) → AreSumsSmall (add_moment (moment_upto m cost child k) (moment m cost (child k)))
+small_upto : (m : Matter) (cost : ℕ → ℕ) (child : ℕ → Tree) (k : ℕ) → k < 8 → AreSmall m cost (cell_of child)
+    → AreSumsSmall (add_moment (moment_upto m cost child k) (moment m cost (child k)))
 small_upto m cost child k l s = record {
-  light = omega (arith, s.light, total-cell m.mass child, sum_upto-le (λ j. total m.mass (child j)) (k + 1) 8 (omega arith), sum_upto-more (λ j. total m.mass (child j)) k);
-  few = omega (arith, s.few, total-cell (λ n. 1) child, sum_upto-le (λ j. total (λ n. 1) (child j)) (k + 1) 8 (omega arith), sum_upto-more (λ j. total (λ n. 1) (child j)) k);
-  cheap = omega (arith, s.cheap, total-cell cost child, sum_upto-le (λ j. total cost (child j)) (k + 1) 8 (omega arith), sum_upto-more (λ j. total cost (child j)) k);
+  light = omega (
+    arith,
+    s.light,
+    total-cell m.mass child,
+    sum_upto-le (λ j. total m.mass (child j)) (k + 1) 8 (omega arith),
+    sum_upto-more
+        (λ j. total m.mass (child j)) k,
+  );
+  few = omega (
+    arith,
+    s.few,
+    total-cell (λ n. 1) child,
+    sum_upto-le (λ j. total (λ n. 1) (child j)) (k + 1) 8 (omega arith),
+    sum_upto-more
+        (λ j. total (λ n. 1) (child j)) k,
+  );
+  cheap = omega (
+    arith,
+    s.cheap,
+    total-cell cost child,
+    sum_upto-le (λ j. total cost (child j)) (k + 1) 8 (omega arith),
+    sum_upto-more
+        (λ j. total cost (child j)) k,
+  );
 }
 
 -- such sums fit the words
-pub sums_fit : (m : Matter) (cost : ℕ → ℕ) (child : ℕ → Tree) (k : ℕ) (whole part : Moment) → k < 8 → AreSmall m cost (cell_of child) → whole ≡ moment_upto m cost child k
+pub sums_fit : (m : Matter) (cost : ℕ → ℕ) (child : ℕ → Tree) (k : ℕ) (whole part : Moment) → k < 8 → AreSmall m cost (cell_of child)
+    → whole ≡ moment_upto m cost child k
     → part ≡ moment m cost (child k) → AreProductsInCube whole → AreProductsInCube part → FitsWords (add_moment whole part)
 sums_fit m cost child k whole part l s whole_is part_is p q =
-    let same : add_moment whole part ≡ add_moment (moment_upto m cost child k) (moment m cost (child k)) = ap (λ y. add_moment y part) whole_is ∙ ap (add_moment (moment_upto m cost child k)) part_is in
+    let same : add_moment whole part ≡ add_moment (moment_upto m cost child k) (moment m cost (child k)) = ap (λ y. add_moment y part) whole_is
+    ∙ ap (add_moment (moment_upto m cost child k)) part_is in
     let small : AreSumsSmall (add_moment whole part) = subst AreSumsSmall (sym same) (small_upto m cost child k l s) in
     let inside = sum_in_cube whole part p q in
     record {

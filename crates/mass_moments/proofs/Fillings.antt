@@ -27,8 +27,10 @@ filled_start m cost cell list = record {
 }
 
 -- the moments with one child more
-part_more : (m : Matter) (cost : ℕ → ℕ) (cell child : Spot) (k : ℕ) (whole part : Moment) → IsChildOf cell k child → whole ≡ moment_upto m cost (child_under cell) k
-    → part ≡ moment m cost (tree_under child) → add_moment whole part ≡ add_moment (moment_upto m cost (child_under cell) k) (moment m cost (child_under cell k))
+part_more : (m : Matter) (cost : ℕ → ℕ) (cell child : Spot) (k : ℕ) (whole part : Moment) → IsChildOf cell k child
+    → whole ≡ moment_upto m cost (child_under cell) k
+    → part ≡ moment m cost (tree_under child)
+    → add_moment whole part ≡ add_moment (moment_upto m cost (child_under cell) k) (moment m cost (child_under cell k))
 part_more m cost cell child k whole part is whole_is part_is =
     ap (λ y. add_moment y part) whole_is ∙ ap (add_moment (moment_upto m cost (child_under cell) k)) (part_is ∙ ap (moment m cost) is.tree)
 
@@ -63,7 +65,8 @@ filled_cell {m} {cost} {s} {cell} {k} {c} {before} {now} {whole} at all number w
     record {
       own = λ d r. elim (same_or_not d c) [
         | inl same ↦
-            subst (λ (y : ℕ). moment_at (set now c whole) y ≡ moment m cost (tree_below s.octree y)) (sym same) (get_or-set_same now c whole no_moment within ∙ own_is)
+            subst (λ (y : ℕ). moment_at (set now c whole) y ≡ moment m cost (tree_below s.octree y)) (sym same)
+            (get_or-set_same now c whole no_moment within ∙ own_is)
         | inr differ ↦ elim (at.parts.nothing_else d r) [
           | inl e ↦ absurd (differ (e ∙ sym number))
           | inr f ↦
@@ -77,12 +80,16 @@ filled_cell {m} {cost} {s} {cell} {k} {c} {before} {now} {whole} at all number w
     }
 
 -- a child's tree has its cell's bounds
-pub small_at : {m : Matter} {cost : ℕ → ℕ} {s cell child : Spot} {k : ℕ} → IsCellAt s cell → IsChildOf cell k child → k < 8 → AreSmall m cost (tree_under s) → AreSmall m cost (tree_under child)
+pub small_at : {m : Matter} {cost : ℕ → ℕ} {s cell child : Spot} {k : ℕ} → IsCellAt s cell → IsChildOf cell k child → k < 8 → AreSmall m cost (tree_under s)
+    → AreSmall m cost (tree_under child)
 small_at {m} {cost} {s} {cell} {child} {k} at is l small =
     subst (AreSmall m cost) (sym is.tree) (small_child m cost (child_under cell) k l (subst (AreSmall m cost) at.tree small))
 
 -- and the sums with one child more fit the words
-pub fit_more : {m : Matter} {cost : ℕ → ℕ} {s cell child : Spot} {k : ℕ} {before now : List Moment} {whole part : Moment} → IsCellAt s cell → IsChildOf cell k child → k < 8
-    → AreSmall m cost (tree_under s) → AreFilledUpTo m cost cell k before now whole → part ≡ moment m cost (tree_under child) → AreProductsInCube part → FitsWords (add_moment whole part)
+pub fit_more : {m : Matter} {cost : ℕ → ℕ} {s cell child : Spot} {k : ℕ} {before now : List Moment} {whole part : Moment} → IsCellAt s cell
+    → IsChildOf cell k child → k < 8
+    → AreSmall m cost (tree_under s) → AreFilledUpTo m cost cell k before now whole → part ≡ moment m cost (tree_under child) → AreProductsInCube part
+    → FitsWords (add_moment whole part)
 fit_more {m} {cost} {s} {cell} {child} {k} {before} {now} {whole} {part} at is l small upto part_is inside =
-    sums_fit m cost (child_under cell) k whole part l (subst (AreSmall m cost) at.tree small) upto.whole_is (part_is ∙ ap (moment m cost) is.tree) upto.inside inside
+    sums_fit m cost (child_under cell) k whole part l (subst (AreSmall m cost) at.tree small) upto.whole_is (part_is ∙ ap (moment m cost) is.tree) upto.inside
+    inside

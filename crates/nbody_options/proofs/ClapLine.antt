@@ -1,5 +1,6 @@
 -- What clap makes of words in the plain form.
-use Rattle.std.proofs.Common.{◌≡◌, ◌∙◌, ◌+◌, ◌==◌, ◌&&◌, ◌||◌, ℕ, Bool, cond, codes, true, false, not, suc, refl, sym, ap, ap₂, subst, arith, List, [], ◌∷◌, ◌++◌, map, take, drop, find, get_or, Option, Some, None, option_map, option_and_then, if◌then◌else◌, true≢false}
+use Rattle.std.proofs.Common.{◌≡◌, ◌∙◌, ◌+◌, ◌==◌, ◌&&◌, ◌||◌, ℕ, Bool, cond, codes, true, false, not, suc, refl, sym, ap, ap₂, subst, arith, List, [], ◌∷◌}
+use Rattle.std.proofs.Common.{◌++◌, map, take, drop, find, get_or, Option, Some, None, option_map, option_and_then, if◌then◌else◌, true≢false}
 use Rattle.std.specs.Prelude.{⊤}
 use Rattle.std.specs.List.{list_any, position, fold}
 use Rattle.std.specs.Option.{option_map_or}
@@ -12,7 +13,8 @@ use Rattle.std.proofs.lemmas.List.Quantifiers.{position-Some}
 use Rattle.std.proofs.lemmas.Option.{none-some, same_Some}
 use Rattle.clap.specs.Lexer.{long_of, short_of}
 use Rattle.clap.specs.Kinds.{Kinds, or_else}
-use Rattle.clap.specs.Walk.{at_row, more_values, is_pending, rows_after, used_by_id, with_values, without, Held, Row, Rule, Walk, Waiting, idle, option, arg_by_id, arg_by_long, first_of, has_row, nothing_held, settled, used, walked, with_default}
+use Rattle.clap.specs.Walk.{at_row, more_values, is_pending, rows_after, used_by_id, with_values, without, Held, Row, Rule, Walk, Waiting, idle, option}
+use Rattle.clap.specs.Walk.{arg_by_id, arg_by_long, first_of, has_row, nothing_held, settled, used, walked, with_default}
 use Rattle.clap.specs.Facts.{explicit_source}
 use Rattle.clap.proofs.FaultLemmas.{leaf_fault}
 use Rattle.clap.specs.Faults.{built_fault, default_fault, fault_of, settle_fault, turn_fault, use_fault, walk_fault, defaults_fault, check_fault, level_fault}
@@ -21,7 +23,8 @@ use Rattle.clap.specs.Simple.{App, Shape, argument_words, names_of, built, fille
 use Rattle.clap.specs.declared.builder.action.ArgAction.TheVariants.{Set}
 use Rattle.clap.specs.declared.parser.matches.ValueSource.TheVariants.{CommandLine}
 use Rattle.clap.specs.declared.builder.value_parser.Reading.TheVariants.{AsWritten}
-use Rattle.nbody_options.specs.Plain.{Given, Scan, Text, cut_at, given_after, given_by, goes_on, is_given, is_value, joined, met, named_value, option_named, option_names, scanned, meant, value_of, whole, with_use, with_value}
+use Rattle.nbody_options.specs.Plain.{Given, Scan, Text, cut_at, given_after, given_by, goes_on, is_given, is_value, joined, met, named_value, option_named}
+use Rattle.nbody_options.specs.Plain.{option_names, scanned, meant, value_of, whole, with_use, with_value}
 use Rattle.nbody_options.specs.Line.{command_rule, line, option_rule}
 
 -- the kinds of error that clap may give at the words, none where it takes them
@@ -51,7 +54,8 @@ first_of-value_of name [] = refl
 first_of-value_of name (p ∷ ps) = go (bytes_eq p.0 name) (first_of-value_of name ps)
   where
     go : (b : Bool) → first_of name (rows_for ps) ≡ value_of name ps
-        → option_and_then (λ (r : Row). Rattle.std.specs.Prelude.slice_get r.values 0) (cond b (Some (row_for p)) (find (λ (r : Row). bytes_eq r.id name) (rows_for ps)))
+        → option_and_then (λ (r : Row). Rattle.std.specs.Prelude.slice_get r.values 0)
+        (cond b (Some (row_for p)) (find (λ (r : Row). bytes_eq r.id name) (rows_for ps)))
         ≡ option_map (λ (q : Text × Text). q.1) (cond b (Some p) (find (λ (q : Text × Text). bytes_eq q.0 name) ps))
     go true e = refl
     go false e = e
@@ -163,15 +167,55 @@ names_are_options = (
         (
           record { word_long = refl; word_no_end = refl; joined_long = λ v. refl; joined_no_end = λ v. refl; by_long = refl; by_id = refl; no_command = refl },
           (
-            record { word_long = refl; word_no_end = refl; joined_long = λ v. refl; joined_no_end = λ v. refl; by_long = refl; by_id = refl; no_command = refl },
+            record {
+              word_long = refl;
+              word_no_end = refl;
+              joined_long = λ v. refl;
+              joined_no_end = λ v. refl;
+              by_long = refl;
+              by_id = refl;
+              no_command = refl;
+            },
             (
-              record { word_long = refl; word_no_end = refl; joined_long = λ v. refl; joined_no_end = λ v. refl; by_long = refl; by_id = refl; no_command = refl },
+              record {
+                word_long = refl;
+                word_no_end = refl;
+                joined_long = λ v. refl;
+                joined_no_end = λ v. refl;
+                by_long = refl;
+                by_id = refl;
+                no_command = refl;
+              },
               (
-                record { word_long = refl; word_no_end = refl; joined_long = λ v. refl; joined_no_end = λ v. refl; by_long = refl; by_id = refl; no_command = refl },
+                record {
+                  word_long = refl;
+                  word_no_end = refl;
+                  joined_long = λ v. refl;
+                  joined_no_end = λ v. refl;
+                  by_long = refl;
+                  by_id = refl;
+                  no_command = refl;
+                },
                 (
-                  record { word_long = refl; word_no_end = refl; joined_long = λ v. refl; joined_no_end = λ v. refl; by_long = refl; by_id = refl; no_command = refl },
+                  record {
+                    word_long = refl;
+                    word_no_end = refl;
+                    joined_long = λ v. refl;
+                    joined_no_end = λ v. refl;
+                    by_long = refl;
+                    by_id = refl;
+                    no_command = refl;
+                  },
                   (
-                    record { word_long = refl; word_no_end = refl; joined_long = λ v. refl; joined_no_end = λ v. refl; by_long = refl; by_id = refl; no_command = refl },
+                    record {
+                      word_long = refl;
+                      word_no_end = refl;
+                      joined_long = λ v. refl;
+                      joined_no_end = λ v. refl;
+                      by_long = refl;
+                      by_id = refl;
+                      no_command = refl;
+                    },
                     tt,
                   ),
                 ),
@@ -226,7 +270,8 @@ use_adds : (name value : Text) (given : Given) → is_given name given ≡ false
     → used (option_filled name) (value ∷ []) (rows_for given) ≡ rows_for (given ++ (name, value) ∷ [])
 use_adds name value given new =
     let gone : without name (rows_for given) ≡ rows_for given = row_added name (λ _. []) [] given new ∙ append_none (rows_for given) in
-    ap (with_values name AsWritten CommandLine (value ∷ [])) gone ∙ row_added name (more_values CommandLine (value ∷ [])) _ given new ∙ sym (rows_more given (name, value))
+    ap (with_values name AsWritten CommandLine (value ∷ [])) gone ∙ row_added name (more_values CommandLine (value ∷ [])) _ given new
+    ∙ sym (rows_more given (name, value))
 
 -- a first use of the command gives one more row
 command_adds : (value : Text) (given : Given) → is_given (codes "command") given ≡ false
@@ -281,17 +326,21 @@ value_stands names a name value given rows skip found same fits adds = (
 -- an option leaves the place of the next positional
 place_kept : (name value : Text) (given : Given) → bytes_eq name (codes "command") ≡ false → place_of (given ++ (name, value) ∷ []) ≡ place_of given
 place_kept name value given other =
-    ap (λ b. if b then 2 else 1) (list_any-append (λ (p : Text × Text). bytes_eq p.0 (codes "command")) given ((name, value) ∷ []) ∙ ap (λ b. is_given (codes "command") given || (b || false)) other ∙ or_false _)
+    ap (λ b. if b then 2 else 1)
+    (list_any-append (λ (p : Text × Text). bytes_eq p.0 (codes "command")) given ((name, value) ∷ [])
+    ∙ ap (λ b. is_given (codes "command") given || (b || false)) other ∙ or_false _)
 
 -- the value that an option waits for
-takes_value : (names : List Text) (given : Given) (name word : Text) (h : Held) → Stands names given (Some name) h → is_value word ≡ true → is_given name given ≡ false
+takes_value : (names : List Text) (given : Given) (name word : Text) (h : Held) → Stands names given (Some name) h → is_value word ≡ true
+    → is_given name given ≡ false
     → Moves names (record { given = given; waits = Some name }) h word (record { given = given ++ (name, word) ∷ []; waits = None })
 unfolding walked
 takes_value names given name word h (same, waits, known) proper new =
     let plain = value_is_plain word proper in
     record {
       held = record { rows = h.rows; pending = Some (name, word ∷ []); skip = h.skip };
-      stands = value_stands names (option_filled name) name word given h.rows h.skip known.by_id same (use_passes name word given new) (use_adds name word given new);
+      stands = value_stands names (option_filled name) name word given h.rows h.skip known.by_id same (use_passes name word given new)
+          (use_adds name word given new);
       passes = rw (plain.no_end, plain.no_long, plain.no_short) refl;
       goes = rw (plain.no_end, plain.no_long, plain.no_short, waits, known.by_id, same_bytes name, place_kept name word given known.no_command) refl;
     }
@@ -309,35 +358,40 @@ takes_option names given name h (fits, same) known =
     }
 
 -- an option joined to its value
-takes_joined : (names : List Text) (given : Given) (name value : Text) (h : Held) → Stands names given None h → IsOption names name → is_given name given ≡ false
+takes_joined : (names : List Text) (given : Given) (name value : Text) (h : Held) → Stands names given None h → IsOption names name
+    → is_given name given ≡ false
     → Moves names (record { given = given; waits = None }) h (45 ∷ 45 ∷ (name ++ 61 ∷ value)) (record { given = given ++ (name, value) ∷ []; waits = None })
 unfolding walked
 takes_joined names given name value h (fits, same) known new =
     record {
       held = record { rows = used (option_filled name) (value ∷ []) (settled (rules_of_names names) h).rows; pending = None; skip = h.skip };
       stands = (refl, ap (used (option_filled name) (value ∷ [])) same ∙ use_adds name value given new);
-      passes = rw (known.joined_no_end value, known.joined_long value, known.by_long, fits) (ap (λ k. or_else k []) (ap (use_fault false (option_filled name) (value ∷ [])) same ∙ use_passes name value given new));
+      passes = rw (known.joined_no_end value, known.joined_long value, known.by_long, fits)
+          (ap (λ k. or_else k []) (ap (use_fault false (option_filled name) (value ∷ [])) same ∙ use_passes name value given new));
       goes = rw (known.joined_no_end value, known.joined_long value, known.by_long, place_kept name value given known.no_command) refl;
     }
 
 -- the command takes the first place
 place_moved : (value : Text) (given : Given) → place_of (given ++ (codes "command", value) ∷ []) ≡ 2
 place_moved value given =
-    ap (λ b. if b then 2 else 1) (list_any-append (λ (p : Text × Text). bytes_eq p.0 (codes "command")) given ((codes "command", value) ∷ []) ∙ or_true (is_given (codes "command") given))
+    ap (λ b. if b then 2 else 1)
+    (list_any-append (λ (p : Text × Text). bytes_eq p.0 (codes "command")) given ((codes "command", value) ∷ []) ∙ or_true (is_given (codes "command") given))
 
 -- clap finds the command by its id
 command_by_id : (names : List Text) → arg_by_id (rules_of_names names) (codes "command") ≡ Some command_filled
 command_by_id names = refl
 
 -- the command
-takes_command : (names : List Text) (given : Given) (word : Text) (h : Held) → Stands names given None h → is_value word ≡ true → is_given (codes "command") given ≡ false
+takes_command : (names : List Text) (given : Given) (word : Text) (h : Held) → Stands names given None h → is_value word ≡ true
+    → is_given (codes "command") given ≡ false
     → Moves names (record { given = given; waits = None }) h word (record { given = given ++ (codes "command", word) ∷ []; waits = None })
 unfolding walked
 takes_command names given word h (fits, same) proper new =
     let plain = value_is_plain word proper in
     record {
       held = record { rows = (settled (rules_of_names names) h).rows; pending = Some (codes "command", word ∷ []); skip = h.skip };
-      stands = value_stands names command_filled (codes "command") word given _ h.skip (command_by_id names) same (use_passes (codes "command") word given new) (command_adds word given new);
+      stands = value_stands names command_filled (codes "command") word given _ h.skip (command_by_id names) same
+          (use_passes (codes "command") word given new) (command_adds word given new);
       passes = rw (plain.no_end, plain.no_long, plain.no_short, new, and_false (is_pending command_filled h.pending)) fits;
       goes = rw (plain.no_end, plain.no_long, plain.no_short, new, and_false (is_pending command_filled h.pending), place_moved word given) refl;
     }
@@ -351,7 +405,8 @@ named_in names [] word name known found = absurd (none-some name found)
 named_in names (x ∷ xs) word name (here, rest) found = go (bytes_eq word (45 ∷ 45 ∷ x)) refl found (λ f. named_in names xs word name rest f)
   where
     go : (b : Bool) → bytes_eq word (45 ∷ 45 ∷ x) ≡ b → cond b (Some x) (find (λ n. bytes_eq word (45 ∷ 45 ∷ n)) xs) ≡ Some name
-        → (find (λ n. bytes_eq word (45 ∷ 45 ∷ n)) xs ≡ Some name → (word ≡ 45 ∷ 45 ∷ name) × IsOption names name) → (word ≡ 45 ∷ 45 ∷ name) × IsOption names name
+        → (find (λ n. bytes_eq word (45 ∷ 45 ∷ n)) xs ≡ Some name → (word ≡ 45 ∷ 45 ∷ name) × IsOption names name)
+        → (word ≡ 45 ∷ 45 ∷ name) × IsOption names name
     go true e f more =
         let is : x ≡ name = same_Some x name f in
         ((bytes_decides word (45 ∷ 45 ∷ x)).0 e ∙ ap (λ n. 45 ∷ 45 ∷ n) is, subst (IsOption names) is here)
@@ -382,7 +437,8 @@ word_cut word at e =
 joined_is : (word : Text) (p : Text × Text) → named_value word ≡ Some p → (word ≡ 45 ∷ 45 ∷ (p.0 ++ 61 ∷ p.1)) × IsOption option_names p.0
 joined_is word p e = go (position (λ b. b == 61) word) refl e
   where
-    go : (o : Option ℕ) → position (λ b. b == 61) word ≡ o → option_and_then (cut_at word) o ≡ Some p → (word ≡ 45 ∷ 45 ∷ (p.0 ++ 61 ∷ p.1)) × IsOption option_names p.0
+    go : (o : Option ℕ) → position (λ b. b == 61) word ≡ o → option_and_then (cut_at word) o ≡ Some p
+        → (word ≡ 45 ∷ 45 ∷ (p.0 ++ 61 ∷ p.1)) × IsOption option_names p.0
     go None at f = absurd (none-some p f)
     go (Some i) at f = named (option_named (take i word)) refl f
       where
@@ -399,7 +455,8 @@ joined_is word p e = go (position (λ b. b == 61) word) refl e
 joined_leads : (given : Given) (word : Text) (h : Held) (t : Scan) (o : Option (Text × Text)) → named_value word ≡ o → Stands option_names given None h
     → with_use given (joined word o) ≡ Some t → LineMoves (record { given = given; waits = None }) h word t
 joined_leads given word h t None e stands leads =
-    value_leads given (codes "command") word t (LineMoves (record { given = given; waits = None }) h word) leads (takes_command option_names given word h stands)
+    value_leads given (codes "command") word t (LineMoves (record { given = given; waits = None }) h word) leads
+    (takes_command option_names given word h stands)
 joined_leads given word h t (Some p) e stands leads =
     let cut = joined_is word p e in
     value_leads given p.0 p.1 t (LineMoves (record { given = given; waits = None }) h word) leads (λ proper new.
@@ -412,7 +469,8 @@ met_leads : (given : Given) (word : Text) (h : Held) (t : Scan) (o : Option Text
 met_leads given word h t None e stands leads = joined_leads given word h t (named_value word) refl stands leads
 met_leads given word h t (Some name) e stands leads =
     let known = named_in option_names option_names word name names_are_options e in
-    let there = subst (λ (w : Text). LineMoves (record { given = given; waits = None }) h w (record { given = given; waits = Some name })) (sym known.0) (takes_option option_names given name h stands known.1) in
+    let there = subst (λ (w : Text). LineMoves (record { given = given; waits = None }) h w (record { given = given; waits = Some name })) (sym known.0)
+    (takes_option option_names given name h stands known.1) in
     subst (LineMoves (record { given = given; waits = None }) h word) (same_Some _ t leads) there
 
 -- a word that fits the form moves the walk
@@ -433,7 +491,8 @@ record Ends (w : Walk) (given : Given) : Type 0 where
 ends_whole : (s : Scan) (h : Held) (given : Given) → Stands option_names s.given s.waits h → whole s.given s.waits ≡ Some given → Ends (walk_of s h) given
 ends_whole s h given = go s.given s.waits
   where
-    go : (g : Given) (waits : Option Text) → Stands option_names g waits h → whole g waits ≡ Some given → Ends (walk_of (record { given = g; waits = waits }) h) given
+    go : (g : Given) (waits : Option Text) → Stands option_names g waits h → whole g waits ≡ Some given
+        → Ends (walk_of (record { given = g; waits = waits }) h) given
     go g (Some name) stands e = absurd (none-some given e)
     go g None stands e =
         let parts = if_some (is_given (codes "command") g) g given e in
@@ -454,7 +513,8 @@ walks (word ∷ words) s h given stands e = go (with_use s.given (meant s.waits 
     go : (o : Option Scan) → with_use s.given (meant s.waits word) ≡ o → goes_on (given_after words) o ≡ Some given
         → ((t : Scan) (k : Held) → Stands option_names t.given t.waits k → given_after words t ≡ Some given
         → (walk_fault (line_shape option_names) [] (walk_of t k) words ≡ []) × Ends (fold (walked (rules_of_names option_names) []) (walk_of t k) words) given)
-        → (walk_fault (line_shape option_names) [] (walk_of s h) (word ∷ words) ≡ []) × Ends (fold (walked (rules_of_names option_names) []) (walk_of s h) (word ∷ words)) given
+        → (walk_fault (line_shape option_names) [] (walk_of s h) (word ∷ words) ≡ [])
+        × Ends (fold (walked (rules_of_names option_names) []) (walk_of s h) (word ∷ words)) given
     go None leads f more = absurd (none-some given f)
     go (Some t) leads f more =
         let step = scan_leads s.given s.waits word h t stands leads in
@@ -490,11 +550,13 @@ all_pass rows names =
 -- the options' defaults add no row
 options_add_none : (rows : List Row) (names : List Text) → fold with_default rows (map option_filled names) ≡ rows
 options_add_none rows [] = refl
-options_add_none rows (name ∷ names) = ap (λ rs. fold with_default rs (map option_filled names)) (either_way (has_row name rows) rows) ∙ options_add_none rows names
+options_add_none rows (name ∷ names) =
+    ap (λ rs. fold with_default rs (map option_filled names)) (either_way (has_row name rows) rows) ∙ options_add_none rows names
 
 -- no default adds a row
 all_add_none : (rows : List Row) (names : List Text) → fold with_default rows (rules_of_names names) ≡ rows
-all_add_none rows names = ap (λ rs. fold with_default rs (map option_filled names)) (either_way (has_row (codes "command") rows) rows) ∙ options_add_none rows names
+all_add_none rows names =
+    ap (λ rs. fold with_default rs (map option_filled names)) (either_way (has_row (codes "command") rows) rows) ∙ options_add_none rows names
 
 -- the command is given in the words
 row_is_given : (name : Text) (given : Given) → is_row_given name (rows_for given) ≡ is_given name given
@@ -502,7 +564,8 @@ row_is_given name [] = refl
 row_is_given name (p ∷ ps) = go (bytes_eq p.0 name) (row_is_given name ps)
   where
     go : (b : Bool) → is_row_given name (rows_for ps) ≡ is_given name ps
-        → option_map_or (λ (r : Row). explicit_source r.source) (cond b (Some (row_for p)) (find (λ (r : Row). bytes_eq r.id name) (rows_for ps))) false ≡ (b || is_given name ps)
+        → option_map_or (λ (r : Row). explicit_source r.source) (cond b (Some (row_for p)) (find (λ (r : Row). bytes_eq r.id name) (rows_for ps)))
+        false ≡ (b || is_given name ps)
     go true e = refl
     go false e = e
 
@@ -532,7 +595,8 @@ unfolding option_names
 level_passes words given e =
     let walk = walks words (record { given = []; waits = None }) nothing_held given (refl, refl) e in
     let end = walk.1 in (
-      rw (walk.0, end.fits, end.rows, all_pass (rows_for given) option_names, all_add_none (rows_for given) option_names) (check_passes given option_names end.commanded),
+      rw (walk.0, end.fits, end.rows, all_pass (rows_for given) option_names, all_add_none (rows_for given) option_names)
+          (check_passes given option_names end.commanded),
       rw (end.rows) (all_add_none (rows_for given) option_names),
     )
 

@@ -1,5 +1,6 @@
 -- How one more word changes what a line gives.
-use Rattle.std.proofs.Common.{◌≡◌, ◌∙◌, ◌&&◌, Bool, true, false, not, sym, ap, refl, List, [], ◌∷◌, ◌++◌, map, Option, Some, None, is_some, option_map, codes, if◌then◌else◌, Bor}
+use Rattle.std.proofs.Common.{◌≡◌, ◌∙◌, ◌&&◌, Bool, true, false, not, sym, ap, refl, List, [], ◌∷◌, ◌++◌, map, Option, Some, None, is_some, option_map, codes}
+use Rattle.std.proofs.Common.{if◌then◌else◌, Bor}
 use Rattle.std.specs.List.{list_any}
 use Rattle.std.specs.Str.{bytes_eq}
 use Rattle.clap.proofs.WalkLemmas.{list_any-map}
@@ -9,11 +10,13 @@ use Rattle.nbody_options.specs.Plain.{Given, Text, given_after, goes_on, is_give
 pub names_given : (given : Given) (names : List (Bor Text)) (name : Text) → map (λ p. p.0) given ≡ map (λ s. s.now) names
     → list_any (λ s. bytes_eq s.now name) names ≡ is_given name given
 names_given given names name same =
-    list_any-map (λ n. bytes_eq n name) (λ s. s.now) names ∙ ap (list_any (λ n. bytes_eq n name)) (sym same) ∙ sym (list_any-map (λ n. bytes_eq n name) (λ p. p.0) given)
+    list_any-map (λ n. bytes_eq n name) (λ s. s.now) names ∙ ap (list_any (λ n. bytes_eq n name)) (sym same)
+    ∙ sym (list_any-map (λ n. bytes_eq n name) (λ p. p.0) given)
 
 module _ (given : Given) (waits : Option Text) (word : Text) (words : List Text) (name : Text) where
   -- an option waits for its value
-  pub waits_next : meant waits word ≡ (name, None) → given_after (word ∷ words) (record { given = given; waits = waits }) ≡ given_after words (record { given = given; waits = Some name })
+  pub waits_next : meant waits word ≡ (name, None)
+      → given_after (word ∷ words) (record { given = given; waits = waits }) ≡ given_after words (record { given = given; waits = Some name })
   unfolding given_after scanned
   waits_next about = ap (λ u. goes_on (given_after words) (with_use given u)) about
 

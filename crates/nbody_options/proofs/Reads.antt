@@ -1,5 +1,6 @@
 -- What clap's answers say of words in the plain form.
-use Rattle.std.proofs.Common.{◌≡◌, ◌∙◌, ap, sym, subst, refl, true, false, List, [], Option, Some, None, is_some, true≢false, ⊎_elim, option_and_then, if◌then◌else◌}
+use Rattle.std.proofs.Common.{◌≡◌, ◌∙◌, ap, sym, subst, refl, true, false, List, [], Option, Some, None, is_some, true≢false, ⊎_elim, option_and_then}
+use Rattle.std.proofs.Common.{if◌then◌else◌}
 use Rattle.clap.specs.Walk.{first_of}
 use Rattle.clap.specs.Matches.{first_value, found_of}
 use Rattle.clap.specs.Faults.{fault_of, is_simple_and_free}

@@ -1,5 +1,6 @@
 -- The options of a list of words.
-use Rattle.std.specs.Prelude.{◌≡◌, ◌==◌, ◌+◌, ◌-◌, ◌^◌, ◌&&◌, ℕ, Bool, true, false, List, Option, Some, None, Result, Ok, Err, codes, take, drop, position, option_and_then, nat_le, if◌then◌else◌, ⊤}
+use Rattle.std.specs.Prelude.{◌≡◌, ◌==◌, ◌+◌, ◌-◌, ◌^◌, ◌&&◌, ℕ, Bool, true, false, List, Option, Some, None, Result, Ok, Err, codes, take, drop, position}
+use Rattle.std.specs.Prelude.{option_and_then, nat_le, if◌then◌else◌, ⊤}
 use Rattle.std.specs.Result.{result_ok}
 use Rattle.std.specs.Str.{bytes_eq}
 use Rattle.octant_code.specs.Decimal.{decimal_read}

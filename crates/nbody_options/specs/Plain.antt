@@ -1,5 +1,6 @@
 -- The plain form of a command line: one command, and options with their values, each at most once, in any order.
-use Rattle.std.specs.Prelude.{◌==◌, ◌+◌, ◌&&◌, not, ℕ, Bool, false, List, [], ◌∷◌, ◌++◌, Option, Some, None, codes, take, drop, find, option_map, option_and_then, position, if◌then◌else◌}
+use Rattle.std.specs.Prelude.{◌==◌, ◌+◌, ◌&&◌, not, ℕ, Bool, false, List, [], ◌∷◌, ◌++◌, Option, Some, None, codes, take, drop, find, option_map}
+use Rattle.std.specs.Prelude.{option_and_then, position, if◌then◌else◌}
 use Rattle.std.specs.List.{list_any}
 use Rattle.std.specs.Str.{bytes_eq}
 

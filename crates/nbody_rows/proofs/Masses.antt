@@ -23,15 +23,18 @@ all_within all count most e f =
     subst Q (sym e) (subst P f (numbers_within count))
 
 -- the masses of all bodies are below 2 ^ 40 together
-pub masses_light : (bodies : List Body) (masses all : List ℕ) (count : ℕ) → AreBodies bodies → count ≡ length bodies → masses ≡ map (λ (b : Body). b.mass) bodies → all ≡ numbers count
+pub masses_light : (bodies : List Body) (masses all : List ℕ) (count : ℕ) → AreBodies bodies → count ≡ length bodies
+    → masses ≡ map (λ (b : Body). b.mass) bodies → all ≡ numbers count
     → sum_by (λ j. slice_index masses j) all < 2 ^ 40
 masses_light bodies masses all count rule long are e =
     let each : sum_upto (λ j. slice_index masses j) count ≡ sum_upto (λ j. (body_at bodies j).mass) count =
     sum_upto-same (λ j. slice_index masses j) (λ j. (body_at bodies j).mass) count
     (λ k h. ap (λ (xs : List ℕ). slice_index xs k) are ∙ get_or-map (λ (b : Body). b.mass) bodies k nobody 0 (omega arith)) in
     let whole = sum_places (λ (b : Body). b.mass) nobody bodies in
-    let listed : sum_by (λ j. slice_index masses j) all ≡ sum_by (λ j. slice_index masses j) (numbers count) = ap (λ (xs : List ℕ). sum_by (λ j. slice_index masses j) xs) e in
-    let same : sum_upto (λ j. (body_at bodies j).mass) count ≡ sum_upto (λ j. (body_at bodies j).mass) (length bodies) = ap (λ n. sum_upto (λ j. (body_at bodies j).mass) n) long in
+    let listed : sum_by (λ j. slice_index masses j) all ≡ sum_by (λ j. slice_index masses j) (numbers count) = ap
+    (λ (xs : List ℕ). sum_by (λ j. slice_index masses j) xs) e in
+    let same : sum_upto (λ j. (body_at bodies j).mass) count ≡ sum_upto (λ j. (body_at bodies j).mass) (length bodies) = ap
+    (λ n. sum_upto (λ j. (body_at bodies j).mass) n) long in
     omega (arith, listed, sum_numbers (λ j. slice_index masses j) count, each, same, whole, rule.total)
 
 -- there are as many masses and points as bodies

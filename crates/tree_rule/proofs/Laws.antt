@@ -30,7 +30,8 @@ pub use Rattle.tree_rule.proofs.Renumber.{renumbered-body, renumbered-cell, renu
 -- the rule without points
 pub use Rattle.tree_rule.proofs.Sound.{bodies_below, bodies_of_stands, forget, keys_grow, one_read, recall, sound_below, sound_of_stands, stands_of_sound}
 -- the cells that are read, and keys below keys
-pub use Rattle.tree_rule.proofs.Count.{Deeper, IsKeyBelow, IsReadIn, Same, cells-body, cells-cell, cells-empty, cells_once, cells_read, child_in_child, comparable, few_below}
+pub use Rattle.tree_rule.proofs.Count.{Deeper, IsKeyBelow, IsReadIn, Same, cells-body, cells-cell, cells-empty, cells_once, cells_read, child_in_child}
+pub use Rattle.tree_rule.proofs.Count.{comparable, few_below}
 pub use Rattle.tree_rule.proofs.Complete.{cells_complete, exact_of_stands_for}
 -- the rule read aloud
 pub use Rattle.tree_rule.proofs.Exact.{exact_of_stands, exact_stands, level_of_shared, more_of_shared, shared_of_more, stands_of_exact, word_published}

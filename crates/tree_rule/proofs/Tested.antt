@@ -1,5 +1,6 @@
 -- What the test of a table of words tries is that the words name exactly, and lemmas for its loops.
-use Rattle.std.proofs.Common.{ℕ, ◌+◌, ◌*◌, ◌^◌, ◌<◌, ◌≤◌, ◌≡◌, ◌↔◌, zero, suc, refl, sym, ◌∙◌, ap, subst, inl, inr, arith, add-one, List, [], ◌∷◌, append-nil, All, length, get_or, drop, take, Bool, true, false, IsTrue, eqb}
+use Rattle.std.proofs.Common.{ℕ, ◌+◌, ◌*◌, ◌^◌, ◌<◌, ◌≤◌, ◌≡◌, ◌↔◌, zero, suc, refl, sym, ◌∙◌, ap, subst, inl, inr, arith, add-one, List, [], ◌∷◌, append-nil}
+use Rattle.std.proofs.Common.{All, length, get_or, drop, take, Bool, true, false, IsTrue, eqb}
 use Rattle.std.proofs.lemmas.Bool.{cases_lt, eq-eqb, eqb-true, false≢true}
 use Rattle.octant_code.specs.Space.{Site, IsKey, IsUnder}
 use Rattle.std.proofs.Math.Nat.{pow-suc}

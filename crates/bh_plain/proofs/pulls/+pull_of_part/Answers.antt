@@ -118,7 +118,8 @@ are_small t c =
     let masses = c.args.masses.now in
     let all = c.requires in (
       subst P (sym c.loop-k.invariant)
-          (front_small law points masses c.args.n c.args.level c.args.key c.args.bodies.now all.own (omega arith) all.constant all.part c.loop-k.k (omega arith)),
+          (front_small law points masses c.args.n c.args.level c.args.key c.args.bodies.now all.own (omega arith) all.constant all.part c.loop-k.k
+          (omega arith)),
       subst P (sym (next_pull t c))
           (one_small law points masses c.args.n c.args.level c.args.key c.args.bodies.now all.own (omega arith) all.constant all.part c.loop-k.k (omega arith)),
     )

@@ -9,7 +9,8 @@ use Rattle.costzones.proofs.cut.zone.Goals as goal
 
 -- the range is that of the zone
 cut : (g : _) (c : After-meets g)
-    → IsCutFor (cost_at c.args.costs.now) c.args.workers c.args.w c.cost_of-whole.result c.range_start.result c.range_start-2.result (tree_under c.whole-root.result) (tree_of c.args.tree.now)
+    → IsCutFor (cost_at c.args.costs.now) c.args.workers c.args.w c.cost_of-whole.result c.range_start.result c.range_start-2.result
+    (tree_under c.whole-root.result) (tree_of c.args.tree.now)
 cut g c = record {
   some_worker = omega (arith, c.requires.worker);
   positive = costs_positive (tree_under c.whole-root.result) c.args.costs.now (rw c.whole-root.ensures.tree c.requires.costs_of_bodies) c.requires.costs;
@@ -22,12 +23,15 @@ cut g c = record {
 
 -- what was gathered
 taken : (g : _) (c : Joined-meets g)
-    → IsTaken (cost_at c.args.costs.now) c.range_start.result c.range_start-2.result (tree_under c.whole-root.result) c.args.steps.now c.if-meets.bodies.items c.if-meets.steps
+    → IsTaken (cost_at c.args.costs.now) c.range_start.result c.range_start-2.result (tree_under c.whole-root.result) c.args.steps.now c.if-meets.bodies.items
+    c.if-meets.steps
 taken g c =
     let one = costs_positive (tree_under c.whole-root.result) c.args.costs.now (rw c.whole-root.ensures.tree c.requires.costs_of_bodies) c.requires.costs in
     elim c.if-meets.branch [
-      | then-meets+in_ok-descend w ↦ rw (w.bodies-is, w.steps-is) (taken_all _ _ _ _ _ _ _ _ c.new-bodies.ensures.items w.in_ok-descend.ensures.items w.in_ok-descend.ensures.opened)
-      | else-meets w ↦ rw (w.bodies-is, w.steps-is) (taken_none _ _ _ _ _ _ _ c.new-bodies.ensures.items one c.cost_of-whole.ensures (sym c.meets.ensures ∙ w.if-meets.false))
+      | then-meets+in_ok-descend w ↦ rw (w.bodies-is, w.steps-is)
+          (taken_all _ _ _ _ _ _ _ _ c.new-bodies.ensures.items w.in_ok-descend.ensures.items w.in_ok-descend.ensures.opened)
+      | else-meets w ↦ rw (w.bodies-is, w.steps-is)
+          (taken_none _ _ _ _ _ _ _ c.new-bodies.ensures.items one c.cost_of-whole.ensures (sym c.meets.ensures ∙ w.if-meets.false))
     ]
 
 pub returns-in_err-descend-clause-steps : goal.returns-in_err-descend-clause-steps

@@ -8,5 +8,6 @@ loop-w-init g c = zones_none _ _ _ c.new-list.ensures.items
 
 pub loop-w-preserved : goal.loop-w-preserved
 loop-w-preserved g c =
-    zones_more (λ z. z.items) (λ w. zone (cost_at c.args.costs.now) c.args.workers w (tree_of c.args.tree.now)) c.loop-w.list.items c.push.new.self.items c.in_ok-bodies.bodies c.loop-w.w
+    zones_more (λ z. z.items) (λ w. zone (cost_at c.args.costs.now) c.args.workers w (tree_of c.args.tree.now)) c.loop-w.list.items c.push.new.self.items
+    c.in_ok-bodies.bodies c.loop-w.w
     c.loop-w.invariant c.in-Ok.ensures.items c.in_ok-bodies.ensures.items

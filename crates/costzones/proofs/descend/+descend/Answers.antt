@@ -4,7 +4,8 @@ use Rattle.bh_model.specs.Zones.{cost_at}
 use Rattle.octree.proofs.Laws.{child_bodies, child_height, child_octree}
 use Rattle.octree.specs.Spot.{tree_under}
 use Rattle.costzones.specs.Ranges.{meets}
-use Rattle.costzones.proofs.Descents.{cost_fits, costs_positive, gathered_broken, gathered_items, gathered_more, gathered_none, gathered_opened, gathered_skip, items_before, items_none, items_one, opened_nothing, opened_one}
+use Rattle.costzones.proofs.Descents.{cost_fits, costs_positive, gathered_broken, gathered_items, gathered_more, gathered_none, gathered_opened}
+use Rattle.costzones.proofs.Descents.{gathered_skip, items_before, items_none, items_one, opened_nothing, opened_one}
 use Rattle.costzones.proofs.descend.+descend.Goals.{then-meets+in_ok-descend-in-Cell, else-meets}
 use Rattle.costzones.proofs.descend.+descend.Goals as goal
 
@@ -12,10 +13,12 @@ pub loop-k-init : goal.loop-k-init
 loop-k-init g t c = gathered_none _ _ _ _ _ _ _ _ c.tick.ensures
 
 pub cost_of-requires-clause-costs_of_bodies : goal.cost_of-requires-clause-costs_of_bodies
-cost_of-requires-clause-costs_of_bodies g t c n i = c.requires.costs_of_bodies n (child_bodies _ _ _ _ n c.in-Cell.ensures c.child-child.ensures c.loop-k-test.true i)
+cost_of-requires-clause-costs_of_bodies g t c n i =
+    c.requires.costs_of_bodies n (child_bodies _ _ _ _ n c.in-Cell.ensures c.child-child.ensures c.loop-k-test.true i)
 
 pub overflow_add-next : goal.overflow_add-next
-overflow_add-next g t c = omega (arith, cost_fits _ _ c.loop-k.invariant c.loop-k-test.true c.child-child.ensures.tree c.in-Cell.ensures.tree, c.cost_of.ensures, c.requires.fits)
+overflow_add-next g t c =
+    omega (arith, cost_fits _ _ c.loop-k.invariant c.loop-k-test.true c.child-child.ensures.tree c.in-Cell.ensures.tree, c.cost_of.ensures, c.requires.fits)
 
 pub descend-requires : goal.descend-requires
 descend-requires g t c κs within =
@@ -44,17 +47,24 @@ loop-k-preserved g t c =
     elim c.if-meets.branch [
       | then-meets+in_ok-descend-in-Cell w ↦
           rw (w.bodies-is, w.steps-is)
-          (gathered_more _ _ _ _ c.loop-k.invariant c.child-child.ensures.tree (ap (λ n. c.loop-k.at + n) c.cost_of.ensures) w.in_ok-descend-in-Cell.ensures.items w.in_ok-descend-in-Cell.ensures.opened)
+          (gathered_more _ _ _ _ c.loop-k.invariant c.child-child.ensures.tree (ap (λ n. c.loop-k.at + n) c.cost_of.ensures)
+          w.in_ok-descend-in-Cell.ensures.items w.in_ok-descend-in-Cell.ensures.opened)
       | else-meets w ↦
           rw (w.bodies-is, w.steps-is)
-          (gathered_skip _ _ c.loop-k.invariant c.child-child.ensures.tree (ap (λ n. c.loop-k.at + n) c.cost_of.ensures) one (sym c.meets.ensures ∙ w.if-meets.false))
+          (gathered_skip _ _ c.loop-k.invariant c.child-child.ensures.tree (ap (λ n. c.loop-k.at + n) c.cost_of.ensures) one
+          (sym c.meets.ensures ∙ w.if-meets.false))
     ]
 
 pub returns-in-Nothing-clause-items : goal.returns-in-Nothing-clause-items
 returns-in-Nothing-clause-items g t c = items_none _ _ _ _ _ c.args.bodies.now.items c.in-Nothing.ensures.tree
 
 pub returns-in-Nothing-clause-opened : goal.returns-in-Nothing-clause-opened
-returns-in-Nothing-clause-opened g t c = omega (arith, opened_nothing (cost_at c.args.cut.now.costs.now) c.args.cut.now.low c.args.cut.now.high c.args.before (tree_under c.args.node.now) c.in-Nothing.ensures.tree)
+returns-in-Nothing-clause-opened g t c =
+    omega (
+      arith,
+      opened_nothing (cost_at c.args.cut.now.costs.now) c.args.cut.now.low c.args.cut.now.high c.args.before (tree_under c.args.node.now)
+          c.in-Nothing.ensures.tree,
+    )
 
 pub returns-in-Ok-clause-items : goal.returns-in-Ok-clause-items
 returns-in-Ok-clause-items g t c =
@@ -63,14 +73,22 @@ returns-in-Ok-clause-items g t c =
 
 pub returns-in-Ok-clause-opened : goal.returns-in-Ok-clause-opened
 returns-in-Ok-clause-opened g t c =
-    omega (arith, opened_one (cost_at c.args.cut.now.costs.now) c.args.cut.now.low c.args.cut.now.high c.args.before c.in-Body.n (tree_under c.args.node.now) c.in-Body.ensures.tree)
+    omega (
+      arith,
+      opened_one (cost_at c.args.cut.now.costs.now) c.args.cut.now.low c.args.cut.now.high c.args.before c.in-Body.n (tree_under c.args.node.now)
+          c.in-Body.ensures.tree,
+    )
 
 pub returns-else-cut-before-clause-items : goal.returns-else-cut-before-clause-items
 returns-else-cut-before-clause-items g t c = items_before _ _ _ _ _ _ c.args.bodies.now.items c.in-Body.ensures.tree (omega arith)
 
 pub returns-else-cut-before-clause-opened : goal.returns-else-cut-before-clause-opened
 returns-else-cut-before-clause-opened g t c =
-    omega (arith, opened_one (cost_at c.args.cut.now.costs.now) c.args.cut.now.low c.args.cut.now.high c.args.before c.in-Body.n (tree_under c.args.node.now) c.in-Body.ensures.tree)
+    omega (
+      arith,
+      opened_one (cost_at c.args.cut.now.costs.now) c.args.cut.now.low c.args.cut.now.high c.args.before c.in-Body.n (tree_under c.args.node.now)
+          c.in-Body.ensures.tree,
+    )
 
 pub returns-after-loop-k-clause-items : goal.returns-after-loop-k-clause-items
 returns-after-loop-k-clause-items g t c = gathered_items _ c.loop-k.invariant (omega arith) c.in-Cell.ensures.tree

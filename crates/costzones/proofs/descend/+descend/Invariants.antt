@@ -8,4 +8,5 @@ abbrev pub decreases-descend : goal.decreases-descend
 decreases-descend g l = height (tree_under l.node.now)
 
 abbrev pub invariant-loop-k : goal.invariant-loop-k
-invariant-loop-k g l = IsGathered (cost_at l.cut.costs.now) l.cut.low l.cut.high l.before (child_under l.cell) l.fn.bodies.items l.fn.steps l.k l.bodies.items l.at l.steps
+invariant-loop-k g l =
+    IsGathered (cost_at l.cut.costs.now) l.cut.low l.cut.high l.before (child_under l.cell) l.fn.bodies.items l.fn.steps l.k l.bodies.items l.at l.steps

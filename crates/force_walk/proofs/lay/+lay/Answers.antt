@@ -14,12 +14,17 @@ node_of_cell-requires-clause-inside t c = rw c.number.ensures (c.requires.moment
 
 pub node_of_cell-requires-clause-massive : goal.node_of_cell-requires-clause-massive
 node_of_cell-requires-clause-massive t c =
-    omega (arith, kept_mass (matter_of c.args.bodies.now) c.args.moments.now c.number.result.0 c.in-Cell.ensures c.requires.moments c.number.ensures, cube_massive c.in-Cell.ensures c.requires.cube)
+    omega (
+      arith,
+      kept_mass (matter_of c.args.bodies.now) c.args.moments.now c.number.result.0 c.in-Cell.ensures c.requires.moments c.number.ensures,
+      cube_massive c.in-Cell.ensures c.requires.cube,
+    )
 
 pub loop-k-init : goal.loop-k-init
 loop-k-init t c =
     lay_start (λ _. []) c.args.nodes.now.items _ c.node_of_cell.result _ c.in_ok-push-in-Cell.ensures
-    (c.node_of_cell.ensures ∙ kept_is (matter_of c.args.bodies.now) c.args.moments.now c.number.result.0 c.args.down c.args.key c.in-Cell.ensures c.requires.moments c.number.ensures)
+    (c.node_of_cell.ensures
+    ∙ kept_is (matter_of c.args.bodies.now) c.args.moments.now c.number.result.0 c.args.down c.args.key c.in-Cell.ensures c.requires.moments c.number.ensures)
 
 pub overflow_mul-child_key : goal.overflow_mul-child_key
 overflow_mul-child_key t c = omega (arith, cube_key c.in-Cell.ensures c.requires.cube)
@@ -38,12 +43,14 @@ lay-requires t c =
 
 pub loop-k-preserved : goal.loop-k-preserved
 loop-k-preserved t c =
-    lay_more (matter_of c.args.bodies.now) c.args.down c.args.key c.from.result _ c.loop-k.nodes.items _ c.child.ensures c.from.ensures c.loop-k.invariant c.in_ok-lay-in-Cell.ensures
+    lay_more (matter_of c.args.bodies.now) c.args.down c.args.key c.from.result _ c.loop-k.nodes.items _ c.child.ensures c.from.ensures c.loop-k.invariant
+    c.in_ok-lay-in-Cell.ensures
 
 pub close-requires-clause-few : goal.close-requires-clause-few
 close-requires-clause-few t c =
     let ok = c.args.nodes.now.ok.0 in
-    let size = lay_size (matter_of c.args.bodies.now) c.args.down c.args.key c.loop-k.k c.len-own.result c.args.nodes.now.items c.loop-k.nodes.items _ c.in-Cell.ensures (omega (arith, c.len-own.ensures)) (omega arith)
+    let size = lay_size (matter_of c.args.bodies.now) c.args.down c.args.key c.loop-k.k c.len-own.result c.args.nodes.now.items c.loop-k.nodes.items _
+    c.in-Cell.ensures (omega (arith, c.len-own.ensures)) (omega arith)
     c.loop-k.invariant in
     omega (arith, size, cube_few c.requires.cube)
 
@@ -53,10 +60,12 @@ returns-in-Nothing t c = lay_none (matter_of c.args.bodies.now) c.args.down c.ar
 pub returns-in-Body : goal.returns-in-Body
 returns-in-Body t c =
     on_ok_map c.push.result _ _
-    (λ e. e ∙ lay_one (matter_of c.args.bodies.now) c.args.down c.args.key c.args.nodes.now.items c.node_of_body.result c.in-Body.ensures c.node_of_body.ensures) c.push.ensures
+    (λ e. e ∙ lay_one (matter_of c.args.bodies.now) c.args.down c.args.key c.args.nodes.now.items c.node_of_body.result c.in-Body.ensures
+    c.node_of_body.ensures) c.push.ensures
 
 pub returns-after-loop-k : goal.returns-after-loop-k
 returns-after-loop-k t c =
     let ok = c.args.nodes.now.ok.0 in
-    lay_closed (matter_of c.args.bodies.now) c.args.down c.args.key c.loop-k.k c.len-own.result c.args.nodes.now.items c.loop-k.nodes.items _ c.in-Cell.ensures (omega (arith, c.len-own.ensures)) (omega arith)
+    lay_closed (matter_of c.args.bodies.now) c.args.down c.args.key c.loop-k.k c.len-own.result c.args.nodes.now.items c.loop-k.nodes.items _
+    c.in-Cell.ensures (omega (arith, c.len-own.ensures)) (omega arith)
     c.loop-k.invariant c.close.ensures

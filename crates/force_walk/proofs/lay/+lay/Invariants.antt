@@ -12,4 +12,5 @@ decreases-lay l = height (tree_under l.at.now)
 abbrev pub invariant-loop-k : goal.invariant-loop-k
 invariant-loop-k l =
     l.nodes.items
-    ≡ (l.fn.nodes.items ++ cell_node (matter_of l.bodies) l.down l.key 1 (tree_under l.at) ∷ []) ++ joined_nodes (child_flat (matter_of l.bodies) l.down l.key (child_under l.cell)) l.k
+    ≡ (l.fn.nodes.items ++ cell_node (matter_of l.bodies) l.down l.key 1 (tree_under l.at) ∷ []) ++ joined_nodes
+    (child_flat (matter_of l.bodies) l.down l.key (child_under l.cell)) l.k

@@ -23,4 +23,5 @@ pub returns-clause-small : goal.returns-clause-small
 returns-clause-small c =
     let P : Pull → Type 0 = λ p. IsPullAmong (length c.args.bodies.now) p in
     subst P (sym (returns-clause-value c))
-    (scene_small c.args.law.now c.args.bodies.now c.args.tree.now c.args.n c.least_distances-least.ensures.rule (record { rule = c.len-rule.ensures.rule; octree = c.requires.octree }) c.requires.body)
+    (scene_small c.args.law.now c.args.bodies.now c.args.tree.now c.args.n c.least_distances-least.ensures.rule
+    (record { rule = c.len-rule.ensures.rule; octree = c.requires.octree }) c.requires.body)

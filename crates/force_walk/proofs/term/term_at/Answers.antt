@@ -11,13 +11,28 @@ the_root : (n r : ℕ) → (r * r ≤ n) × (n < (r + 1) * (r + 1)) → r ≡ ro
 the_root n r h = root-is n r h.0 h.1
 
 pub overflow_add-r2 : goal.overflow_add-r2
-overflow_add-r2 c = omega (arith, reach c.args.d2 c.law.inside.eps2 _ _ _ _ c.from.view_is c.to.view_is c.from.invariant c.to.invariant c.requires.distance c.law.invariant.eps2_fits)
+overflow_add-r2 c =
+    omega (
+      arith,
+      reach c.args.d2 c.law.inside.eps2 _ _ _ _ c.from.view_is c.to.view_is c.from.invariant c.to.invariant c.requires.distance
+          c.law.invariant.eps2_fits,
+    )
 
 pub guess_of-guess-requires-clause-r2_fits : goal.guess_of-guess-requires-clause-r2_fits
-guess_of-guess-requires-clause-r2_fits c = omega (arith, reach c.args.d2 c.law.inside.eps2 _ _ _ _ c.from.view_is c.to.view_is c.from.invariant c.to.invariant c.requires.distance c.law.invariant.eps2_fits)
+guess_of-guess-requires-clause-r2_fits c =
+    omega (
+      arith,
+      reach c.args.d2 c.law.inside.eps2 _ _ _ _ c.from.view_is c.to.view_is c.from.invariant c.to.invariant c.requires.distance
+          c.law.invariant.eps2_fits,
+    )
 
 pub is_root-requires-clause-number_fits : goal.is_root-requires-clause-number_fits
-is_root-requires-clause-number_fits c = omega (arith, reach c.args.d2 c.law.inside.eps2 _ _ _ _ c.from.view_is c.to.view_is c.from.invariant c.to.invariant c.requires.distance c.law.invariant.eps2_fits)
+is_root-requires-clause-number_fits c =
+    omega (
+      arith,
+      reach c.args.d2 c.law.inside.eps2 _ _ _ _ c.from.view_is c.to.view_is c.from.invariant c.to.invariant c.requires.distance
+          c.law.invariant.eps2_fits,
+    )
 
 pub short_divisor-divisor-requires-clause-positive : goal.short_divisor-divisor-requires-clause-positive
 short_divisor-divisor-requires-clause-positive c = subst (λ (l : PullLaw). 0 < c.args.d2 + l.eps2) (sym c.law.view_is) c.requires.apart
@@ -42,10 +57,12 @@ returns-then-is_sure-3 c =
     c.share.ensures ∙ component-shared scale from.x to.x divisor c.guess_of-guess.result.rate c.abs_diff-x.result (2 ^ 32) 1 c.abs_diff-x.ensures low high
     (c.if-is_sure.ensures refl) (omega arith) c.short_divisor-divisor.ensures.positive in
     let y : c.share-then-is_sure-3.result ≡ component scale from.y to.y divisor =
-    c.share-then-is_sure-3.ensures ∙ component-shared scale from.y to.y divisor c.guess_of-guess.result.rate c.abs_diff-y.result (2 ^ 32) 1 c.abs_diff-y.ensures low high
+    c.share-then-is_sure-3.ensures
+    ∙ component-shared scale from.y to.y divisor c.guess_of-guess.result.rate c.abs_diff-y.result (2 ^ 32) 1 c.abs_diff-y.ensures low high
     (c.if-is_sure-2.ensures refl) (omega arith) c.short_divisor-divisor.ensures.positive in
     let z : c.share-then-is_sure-3-2.result ≡ component scale from.z to.z divisor =
-    c.share-then-is_sure-3-2.ensures ∙ component-shared scale from.z to.z divisor c.guess_of-guess.result.rate c.abs_diff-z.result (2 ^ 32) 1 c.abs_diff-z.ensures low high
+    c.share-then-is_sure-3-2.ensures
+    ∙ component-shared scale from.z to.z divisor c.guess_of-guess.result.rate c.abs_diff-z.result (2 ^ 32) 1 c.abs_diff-z.ensures low high
     (c.if-is_sure-3.ensures refl) (omega arith) c.short_divisor-divisor.ensures.positive in
     one-term law c.args.law.now c.args.mass from c.args.from to c.args.to scale c.args.d2 (c.guess_of-guess.result.root % 2097152) divisor
     c.share.result c.share-then-is_sure-3.result c.share-then-is_sure-3-2.result

@@ -10,4 +10,5 @@ pub returns-clause-value : goal.returns-clause-value
 returns-clause-value c = ap (λ n. n * c.from-2.result) c.from.ensures ∙ ap (λ n. c.args.g * 256 * n) c.from-2.ensures ∙ shifted c.args.g c.args.mass
 
 pub returns-clause-fits : goal.returns-clause-fits
-returns-clause-fits c = let product = mul-le c.from.result c.from-2.result (2 ^ 48) (2 ^ 64 - 1) (omega (arith, c.from.ensures)) (omega (arith, c.from-2.ensures)) in omega arith
+returns-clause-fits c =
+    let product = mul-le c.from.result c.from-2.result (2 ^ 48) (2 ^ 64 - 1) (omega (arith, c.from.ensures)) (omega (arith, c.from-2.ensures)) in omega arith

@@ -45,11 +45,14 @@ fill-part-requires t c =
     )
 
 pub plus-whole-requires : goal.plus-whole-requires
-plus-whole-requires t c = fit_more c.in-Cell.ensures c.child.ensures c.loop-k-test.true c.requires.small c.loop-k.invariant.filled c.fill-part.ensures.value c.fill-part.ensures.inside
+plus-whole-requires t c =
+    fit_more c.in-Cell.ensures c.child.ensures c.loop-k-test.true c.requires.small c.loop-k.invariant.filled c.fill-part.ensures.value
+    c.fill-part.ensures.inside
 
 pub loop-k-preserved : goal.loop-k-preserved
 loop-k-preserved t c = record {
-  filled = filled_more c.in-Cell.ensures c.child.ensures c.loop-k-test.true c.loop-k.invariant.filled c.fill-part.ensures.filled c.fill-part.ensures.value c.fill-part.ensures.inside c.plus-whole.ensures;
+  filled = filled_more c.in-Cell.ensures c.child.ensures c.loop-k-test.true c.loop-k.invariant.filled c.fill-part.ensures.filled c.fill-part.ensures.value
+      c.fill-part.ensures.inside c.plus-whole.ensures;
   centred = c.fill-part.ensures.centred;
 }
 
@@ -67,5 +70,6 @@ returns-after-loop-k-clause-value t c = whole_cell c.in-Cell.ensures (omega arit
 
 pub returns-after-loop-k-clause-filled : goal.returns-after-loop-k-clause-filled
 returns-after-loop-k-clause-filled t c =
-    let within : c.number.result.0 < length c.loop-k.list = omega (arith, c.requires.cells_in _ c.in-Cell.ensures.reached, c.number.ensures, c.loop-k.auto.list) in
+    let within : c.number.result.0 < length c.loop-k.list = omega
+    (arith, c.requires.cells_in _ c.in-Cell.ensures.reached, c.number.ensures, c.loop-k.auto.list) in
     rw c.put.ensures.list (filled_cell c.in-Cell.ensures (omega arith) c.number.ensures within c.loop-k.invariant.filled)

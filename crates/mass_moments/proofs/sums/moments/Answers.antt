@@ -19,7 +19,8 @@ pub fill-whole-requires-clause-bodies_in : goal.fill-whole-requires-clause-bodie
 fill-whole-requires-clause-bodies_in g c = λ n i.
     omega (
       arith,
-      numbers_in_order (site_at (sites_of c.args.bodies.now)) (length (sites_of c.args.bodies.now)) n (subst (λ (t : Tree). IsIn (order t) n) (c.whole.ensures.tree ∙ c.requires.octree.tree) i),
+      numbers_in_order (site_at (sites_of c.args.bodies.now)) (length (sites_of c.args.bodies.now)) n
+          (subst (λ (t : Tree). IsIn (order t) n) (c.whole.ensures.tree ∙ c.requires.octree.tree) i),
       length-map c.args.bodies.now (λ (b : BodyOf). b.at),
     )
 
@@ -28,7 +29,8 @@ fill-whole-requires-clause-small g c =
     let bodies = c.args.bodies.now in
     let costs = c.args.costs.now in
     subst (AreSmall (matter_of bodies) (cost_at costs)) (sym (c.whole.ensures.tree ∙ c.requires.octree.tree))
-    (small_octree bodies costs (length (sites_of bodies)) c.len-rule.ensures.rule (length-map bodies (λ (b : BodyOf). b.at)) c.requires.one_cost_each c.requires.costs)
+    (small_octree bodies costs (length (sites_of bodies)) c.len-rule.ensures.rule (length-map bodies (λ (b : BodyOf). b.at)) c.requires.one_cost_each
+    c.requires.costs)
 
 pub returns : goal.returns
 returns g c =
@@ -36,7 +38,8 @@ returns g c =
     let m = matter_of c.args.bodies.now in
     let cost = cost_at c.args.costs.now in
     let filled = c.fill-whole.new.list in
-    let long : c.in-Ok.list.len ≡ length filled = omega (arith, c.in-Ok.list.ok.0, c.fill-whole.auto.list, c.deref_mut.ensures.len, ap length c.deref_mut.ensures.value) in
+    let long : c.in-Ok.list.len ≡ length filled = omega
+    (arith, c.in-Ok.list.ok.0, c.fill-whole.auto.list, c.deref_mut.ensures.len, ap length c.deref_mut.ensures.value) in
     let used : length filled ≡ o.used = omega (arith, c.in-Ok.ensures.len, long, c.held.ensures.value, c.held.ensures.rule.used_held) in
     subst (AreMoments o m cost) (sym (c.with_centres.ensures ∙ take_at filled (drop (length filled) c.in-Ok.list.items) c.in-Ok.list.len (sym long))) record {
       within = λ d h. omega (arith, c.held.ensures.rule.cells_used d h, used);

@@ -12,7 +12,8 @@ pub returns : goal.returns
 unfolding line option_names
 returns c =
     let named = ap app_of_fields c.no_binary_name.ensures ∙ ap (on_top (λ s. record s { no_binary_name = true })) c.new.ensures.app in
-    let bare_is : app_of c.disable_help_flag-bare.result ≡ bare = ap app_of_fields c.disable_help_flag-bare.ensures ∙ ap (on_top (λ s. record s { disable_help_flag = true })) named in
+    let bare_is : app_of c.disable_help_flag-bare.result ≡ bare = ap app_of_fields c.disable_help_flag-bare.ensures
+    ∙ ap (on_top (λ s. record s { disable_help_flag = true })) named in
     let one = c.in_ok-arg.ensures.shape c.command_word.ensures.local ∙ ap₂ with_rule bare_is c.command_word.ensures.rule in
     let two = c.in_ok-arg-2.ensures.shape c.option_of.ensures.local ∙ ap₂ with_rule one c.option_of.ensures.rule in
     let three = c.in_ok-arg-3.ensures.shape c.option_of-2.ensures.local ∙ ap₂ with_rule two c.option_of-2.ensures.rule in

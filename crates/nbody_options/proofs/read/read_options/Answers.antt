@@ -6,7 +6,8 @@ use Rattle.nbody_options.proofs.read.read_options.Goals as goal
 pub unreachable-requires : goal.unreachable-requires
 unreachable-requires c =
     let plain : is_some (given_by (map string_bytes c.args.words.now)) ≡ true = sym c.in-Ok-true.ensures ∙ c.in-Ok-true.field-0-test in
-    c.in_default.not-OutOfMemory (c.kind.ensures ∙ refuses_for_memory _ _ c.in-Err-try_get_matches_from.error c.in-Ok.ensures plain c.in-Err-try_get_matches_from.ensures.kinds)
+    c.in_default.not-OutOfMemory
+    (c.kind.ensures ∙ refuses_for_memory _ _ c.in-Err-try_get_matches_from.error c.in-Ok.ensures plain c.in-Err-try_get_matches_from.ensures.kinds)
 
 pub returns-then-is_served : goal.returns-then-is_served
 returns-then-is_served c =

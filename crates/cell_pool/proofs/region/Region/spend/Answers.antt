@@ -7,6 +7,9 @@ pub invariant_of-self : goal.invariant_of-self
 invariant_of-self c =
     let f = c.self.inside in
     let was = c.self.invariant in
-    let few : c.args.n ≤ length (drop f.spent f.list.items) = subst (λ (y : Free). c.args.n ≤ length y.cells) (sym c.self.view_is) c.requires in
-    (spent_more f.list.items f.spent c.args.n f.room few was.0, omega (arith, was.1, few, length-drop f.spent f.list.items), omega
-        (arith, was.2, was.0.fits, few))
+    let few : c.args.n ≤ length (drop f.spent f.list.items) = subst (λ (y : Free). c.args.n ≤ length y.cells) (sym c.self.view_is) c.requires in (
+      spent_more f.list.items f.spent c.args.n f.room few was.0,
+      omega (arith, was.1, few, length-drop f.spent f.list.items),
+      omega
+          (arith, was.2, was.0.fits, few),
+    )

@@ -15,10 +15,10 @@ invariant_of-result c =
     let count : c.len.result ≡ length f.list.items = omega (arith, c.len.ensures, f.list.ok.0) in
     let enough : f.spent + c.args.n ≤ length f.list.items = omega (arith, was.1, few, length-drop f.spent f.list.items) in
     let own : length tail.items ≡ c.args.n =
-        omega (arith, ap length c.in-Ok.ensures.tail, length-drop (c.len.result - c.args.n) f.list.items, count, enough) in (
+    omega (arith, ap length c.in-Ok.ensures.tail, length-drop (c.len.result - c.args.n) f.list.items, count, enough) in (
       subst (λ xs. IsRegion record { cells = xs; room = c.args.n }) (sym c.in-Ok.ensures.tail)
           (cut_back f.list.items f.spent (c.len.result - c.args.n) c.args.n f.room (omega (arith, count, enough)) (omega (arith, count))
-              (omega (arith, count)) was.0),
+          (omega (arith, count)) was.0),
       omega arith,
       omega (arith, own, tail.ok),
     )

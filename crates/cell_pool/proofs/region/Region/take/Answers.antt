@@ -10,5 +10,5 @@ invariant_of-self c =
     let new = c.pop.new.self.items in
     let some : 0 < length (drop f.spent f.list.items) = subst (λ (y : Free). 0 < length y.cells) (sym c.self.view_is) c.requires in
     let low : f.spent ≤ length new =
-        omega (arith, some, length-drop f.spent f.list.items, ap length c.in-Some.ensures.items, length-append new (c.in-Some.number ∷ [])) in
+    omega (arith, some, length-drop f.spent f.list.items, ap length c.in-Some.ensures.items, length-append new (c.in-Some.number ∷ [])) in
     (taken f.list.items new c.in-Some.number f.spent f.room c.in-Some.ensures.items low was.0, low, omega (arith, was.2, c.in-Some.ensures.capacity))
