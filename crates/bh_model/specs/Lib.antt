@@ -5,3 +5,4 @@ pub mod Pulls
 pub mod Zones
 pub mod Plans
 pub mod Standing
+pub mod Motions

@@ -3,3 +3,5 @@ pub mod Pushes
 pub mod Costs
 pub mod Zones
 pub mod Frames
+pub mod Stages
+pub mod Sharing

@@ -1,62 +1,78 @@
 -- What contracts see of an engine.
-use Rattle.std.specs.Prelude.{ℕ, ◌≡◌, Bool, true, false, IfSome, IsSome, IsTrue, List, Option, length}
+use Rattle.std.specs.Prelude.{ℕ, pos, ◌*◌, ◌^◌, ◌≡◌, List, Option, None, Some, length, map, ⊤}
 use Rattle.std.specs.List.{All}
-use Rattle.octant_code.specs.Space.{IsInCube}
+use Rattle.octant_code.specs.Space.{IsInCube, Site}
+use Rattle.bh_model.specs.Motions.{Exact, Velocity}
 use Rattle.bh_model.specs.Plans.{TreePlan}
 use Rattle.bh_model.specs.Zones.{first_costs, zones}
-use Rattle.bh_model.specs.declared.pull.Pull.{Pull}
 use Rattle.force_walk.specs.Walks.{pulls}
 use Rattle.mass_moments.specs.Kept.{IsCost, cost_at, matter_of}
-use Rattle.octree.specs.Stored.{IsOctreeOf, Stored}
 use Rattle.probe.specs.Figures.{FrameFigures}
 use Rattle.scene_file.specs.Bodies.{sites_of}
 use Rattle.scene_file.specs.declared.bodies.Body.{Body}
 use Rattle.frame_core.specs.Frames.{frame_figures, tree_of_bodies}
+use Rattle.frame_core.specs.Shares.{first_shares}
 
--- the plan, the number of the frame, the bodies with their costs, whether the points have a tree and a frame, and whether a call was refused
+-- how far an engine is with its bodies' points: they have no tree, a tree, or a tree and a frame, or a call was refused
+pub data EngineStage : Type 0 where
+  WithoutTree : EngineStage
+  WithTree : EngineStage
+  WithFrame : EngineStage
+  Spent : EngineStage
+
+-- the plan, the number of the frame, the bodies, where these are exactly and how fast they move, the cost of each, the shares in which workers build, the points of the last tree that was made, and the stage
 pub record EngineState : Type 0 where
   pub plan : TreePlan
   pub step : ℕ
   pub bodies : List Body
+  pub exact : List Exact
+  pub velocities : List Velocity
   pub costs : List ℕ
-  pub has_tree : Bool
-  pub has_frame : Bool
-  pub spent : Bool
+  pub shares : List (List ℕ)
+  pub last : Option (List Site)
+  pub stage : EngineStage
 
--- the engine of a plan and bodies, before its first tree: frame 0, and each cost is 1
+-- the points have a tree
+abbrev pub HasTree : EngineStage → Type 0
+HasTree WithTree = ⊤
+HasTree WithFrame = ⊤
+HasTree _ = ⊥
+
+-- no call was refused
+abbrev pub IsUsable : EngineStage → Type 0
+IsUsable Spent = ⊥
+IsUsable _ = ⊤
+
+-- where a body is exactly before it moves: at its point
+abbrev pub first_exact : Body → Exact
+first_exact b = record { x = b.at.x * 2 ^ 32; y = b.at.y * 2 ^ 32; z = b.at.z * 2 ^ 32 }
+
+-- how fast it moves then
+abbrev pub at_rest : Body → Velocity
+at_rest b = record { x = pos 0; y = pos 0; z = pos 0 }
+
+-- the engine of a plan and bodies, before its first tree: frame 0, bodies at rest, each cost 1, and no tree
 abbrev pub opened : TreePlan → List Body → EngineState
 opened plan bodies = record {
   plan = plan;
   step = 0;
   bodies = bodies;
+  exact = map first_exact bodies;
+  velocities = map at_rest bodies;
   costs = first_costs (length bodies);
-  has_tree = false;
-  has_frame = false;
-  spent = false;
+  shares = first_shares plan.workers (length bodies);
+  last = None;
+  stage = WithoutTree;
 }
 
 -- the engine once its points have a tree
 abbrev pub with_tree : EngineState → EngineState
-with_tree e = record e { has_tree = true }
+with_tree e = record e { last = Some (sites_of e.bodies); stage = WithTree }
 
 -- the engine once it has its frame
 abbrev pub with_frame : EngineState → EngineState
-with_frame e = record e { has_frame = true }
-
--- the engine once a call was refused
-abbrev pub refused : EngineState → EngineState
-refused e = record e { spent = true }
+with_frame e = record e { stage = WithFrame }
 
 -- the figures of an engine's frame
 abbrev pub frame_of : EngineState → FrameFigures
 frame_of e = frame_figures e.plan (cost_at e.costs) e.step e.bodies
-
--- what every engine keeps: a cost from 1 to 65,536 for each body, the canonical octree of the points where
--- there is a tree, and where there is a frame a tree, the zones by the costs and the pulls on all bodies
-pub record IsEngine (e : EngineState) (octree : Option Stored) (lists : List (List ℕ)) (found : List Pull) : Type 0 where
-  pub one_cost_each : length e.costs ≡ length e.bodies
-  pub cost : All IsCost e.costs
-  pub tree : IfSome octree (λ t. IsOctreeOf (sites_of e.bodies) t)
-  pub frame_tree : IsTrue e.has_frame → IsSome octree
-  pub zones_are : IsTrue e.has_frame → lists ≡ zones (cost_at e.costs) e.plan.workers (tree_of_bodies e.bodies)
-  pub pulls_are : IsTrue e.has_frame → found ≡ pulls e.plan.law (matter_of e.bodies) (length e.bodies) (tree_of_bodies e.bodies)

@@ -1,3 +1,5 @@
 pub mod Frames
 pub mod Pushes
+pub mod Shares
 pub mod Engines
+pub mod Held

@@ -1,11 +1,15 @@
 //! The engine of a run.
 
 ghost use Rattle.std.specs.Prelude.{IfOk};
-ghost use Rattle.octree.specs.Stored.{IsOctreeOf};
-ghost use Rattle.scene_file.specs.Bodies.{sites_of};
 
-use crate::made::{Made, make};
+use crate::shares::first_shares;
+use crate::stage::{FrameParts, Stage};
+use crate::sums::{greatest_cost, sum_up, whole_cost};
+use crate::tree::KeptTree;
 use bh_model::{Plan, Pull};
+use costzones::zones;
+use force_walk::pulls;
+use mass_moments::moments;
 use octant_code::{OutOfMemory, Point};
 use octree::Octree;
 use probe::Frame;
@@ -17,8 +21,10 @@ use std::marker::Model;
 /// frame. Once a call was refused for want of memory the engine is spent, and nothing more is asked
 /// of it.
 ///
-/// Contracts see it as an `EngineState`: the plan, the number of the frame, the bodies, the cost of
-/// each, whether there is a tree, whether there is a frame, and whether the engine is spent.
+/// Contracts see it as an `EngineState`: the plan, the number of the frame, the bodies, where these
+/// are exactly and how fast they move, the cost of each, the shares in which workers build, the points
+/// of the last tree that was made, and the stage, which says whether the points have a tree and a
+/// frame, and whether the engine is spent.
 #[derive(Drop)]
 pub struct Engine {
     alloc: Global,
@@ -26,36 +32,36 @@ pub struct Engine {
     step: u32,
     bodies: Bodies,
     costs: Vec<u32>,
-    tree: Option<Octree>,
-    zones: Vec<Vec<u32>>,
-    pulls: Vec<Pull>,
-    has_frame: bool,
-    spent: bool,
+    shares: Vec<Vec<u32>>,
+    last: Option<KeptTree>,
+    stage: Stage,
 }
 
 impl Model for Engine {
-    ghost use Rattle.std.specs.Prelude.{is_some, map};
-    ghost use Rattle.frame_core.specs.Engines.{EngineState, IsEngine};
+    ghost use Rattle.frame_core.specs.Engines.{EngineState};
 
     ghost Value = { EngineState };
 
-    ghost view = { λ e. record { plan = e.plan; step = e.step; bodies = e.bodies; costs = e.costs.items; has_tree = is_some e.tree; has_frame = e.has_frame; spent = e.spent } };
+    ghost use Rattle.frame_core.specs.Held.{IsEngine, state_of};
 
-    ghost invariant = { λ e. IsEngine (record { plan = e.plan; step = e.step; bodies = e.bodies; costs = e.costs.items; has_tree = is_some e.tree; has_frame = e.has_frame; spent = e.spent }) e.tree (map (λ z. z.items) e.zones.items) e.pulls.items };
+    ghost view = { state_of };
+
+    ghost invariant = { λ e. IsEngine (state_of e) e.stage };
 }
 
 impl Engine {
-    ghost use Rattle.std.specs.Prelude.{◌≡◌, ◌<◌, ℕ, All, IfOk, IsErr, IsFalse, IsTrue, OnErr, OnOk, length};
+    ghost use Rattle.std.specs.Prelude.{◌≡◌, ◌<◌, IfOk, IsErr, OnErr, OnOk, length};
     ghost use Rattle.octant_code.specs.Points.{site_at};
-    ghost use Rattle.octant_code.specs.Space.{IsInCube};
     ghost use Rattle.bh_model.specs.Zones.{zone};
-    ghost use Rattle.frame_core.specs.Engines.{frame_of, opened, refused, with_frame, with_tree};
+    ghost use Rattle.frame_core.specs.Engines.{HasTree, IsUsable, Spent, WithFrame, WithTree, WithoutTree, frame_of, opened, with_frame, with_tree};
     ghost use Rattle.frame_core.specs.Frames.{pull_on, tree_of_bodies};
+    ghost use Rattle.frame_core.specs.Held.{AreParts};
     ghost use Rattle.mass_moments.specs.Kept.{cost_at};
-    ghost use Rattle.octree.specs.Stored.{IsOctreeOf};
+    ghost use Rattle.octree.specs.Stored.{IsOctreeOf, tree_of};
     ghost use Rattle.scene_file.specs.Bodies.{sites_of};
 
-    /// The engine of a plan and bodies, with a cost of 1 for each body. It has no tree yet.
+    /// The engine of a plan and bodies, with a cost of 1 for each body, and the bodies shared among
+    /// the workers by their numbers. It has no tree yet.
     ///
     /// # Errors
     ///
@@ -63,20 +69,17 @@ impl Engine {
     pub fn open(alloc: Global, plan: Plan, bodies: Bodies) -> Result<Engine, OutOfMemory>
         ensures { IfOk result (λ e. e ≡ opened plan bodies) }
     {
-        let Ok(costs) = vec![in alloc; 1u32; bodies.len() as usize] else {
-            return Err(OutOfMemory);
-        };
+        let costs = vec![in alloc; 1u32; bodies.len() as usize]?;
+        let shares = first_shares(alloc, plan.workers, bodies.len())?;
         Ok(Engine {
             alloc,
             plan,
             step: 0,
             bodies,
             costs,
-            tree: None,
-            zones: Vec::new(alloc),
-            pulls: Vec::new(alloc),
-            has_frame: false,
-            spent: false,
+            shares,
+            last: None,
+            stage: Stage::Bare,
         })
     }
 
@@ -86,14 +89,14 @@ impl Engine {
     ///
     /// `OutOfMemory` for want of memory. The engine is spent then.
     pub fn tree(&mut self) -> Result<(), OutOfMemory>
-        requires not_spent { IsFalse self.old.spent }
-        requires no_tree { IsFalse self.old.has_tree }
+        requires { self.old.stage ≡ WithoutTree }
         ensures made { OnOk result (self.new ≡ with_tree self.old) }
-        ensures refused { OnErr result (self.new ≡ refused self.old) }
+        ensures refused { OnErr result (self.new.stage ≡ Spent) }
     {
-        match octree_of(self.alloc, &self.bodies) {
+        match KeptTree::make(self.alloc, self.plan.builder, &self.bodies) {
             Ok(tree) => {
-                self.tree = Some(tree);
+                self.last = Some(tree);
+                self.stage = Stage::Tree;
                 Ok(())
             }
             Err(_) => self.refuse(),
@@ -107,64 +110,82 @@ impl Engine {
     ///
     /// `OutOfMemory` for want of memory. The engine is spent then.
     pub fn frame<R>(&mut self, rt: &R) -> Result<Frame, OutOfMemory>
-        requires not_spent { IsFalse self.old.spent }
-        requires tree { IsTrue self.old.has_tree }
-        requires no_frame { IsFalse self.old.has_frame }
+        requires { self.old.stage ≡ WithTree }
         ensures figures { IfOk result (λ f. f ≡ frame_of self.old) }
         ensures made { OnOk result (self.new ≡ with_frame self.old) }
-        ensures refused { OnErr result (self.new ≡ refused self.old) }
+        ensures refused { OnErr result (self.new.stage ≡ Spent) }
     {
-        let Some(tree) = &self.tree else {
-            unreachable!()
-        };
-        match make(
-            rt,
-            self.alloc,
-            &self.plan,
-            self.step,
-            &self.bodies,
-            &self.costs,
-            tree,
-        ) {
-            Ok(made) => {
-                let Made {
-                    frame,
-                    zones,
-                    pulls,
-                } = made;
-                self.zones = zones;
-                self.pulls = pulls;
-                self.has_frame = true;
-                Ok(frame)
+        match self.frame_parts(rt) {
+            Ok(parts) => {
+                let figures = parts.figures;
+                self.stage = Stage::Frame(parts);
+                Ok(figures)
             }
             Err(_) => self.refuse(),
         }
     }
 
+    // The parts of the frame of the engine's number: zones are cut by the costs, and the pulls are
+    // worked out zone by zone.
+    fn frame_parts<R>(&self, rt: &R) -> Result<FrameParts, OutOfMemory>
+        requires { self.now.stage ≡ WithTree }
+        ensures { IfOk result (AreParts self.now) }
+    {
+        let Some(kept) = &self.last else {
+            unreachable!()
+        };
+        let tree = kept.octree();
+        let bodies = &self.bodies;
+        let costs = self.costs.as_slice();
+        let plan = self.plan;
+        let count = bodies.len();
+        let moments = moments(rt, self.alloc, tree, bodies, costs)?;
+        let zones = zones(self.alloc, tree, &moments, costs, plan.workers)?;
+        let cut = zones.as_slice();
+        let pulls = pulls(rt, self.alloc, tree, &moments, bodies, cut, &plan.law)?;
+        let sums = sum_up(bodies, &pulls);
+        let figures = Frame {
+            step: self.step,
+            bodies: count,
+            cells: tree.cells(),
+            cost: whole_cost(tree, &moments, costs),
+            greatest: greatest_cost(cut, costs),
+            met: sums.met,
+            push_x: sums.push_x,
+            push_y: sums.push_y,
+            push_z: sums.push_z,
+        };
+        Ok(FrameParts {
+            figures,
+            zones,
+            pulls,
+        })
+    }
+
     // What a refused call answers: from then on the engine is spent.
     fn refuse<T>(&mut self) -> Result<T, OutOfMemory>
         ensures answer { IsErr result }
-        ensures spent { self.new ≡ refused self.old }
+        ensures spent { self.new.stage ≡ Spent }
     {
-        self.spent = true;
+        self.stage = Stage::Spent;
         Err(OutOfMemory)
     }
 
     /// The canonical octree of the bodies' points.
     pub fn octree(&self) -> &Octree
-        requires not_spent { IsFalse self.now.spent }
-        requires tree { IsTrue self.now.has_tree }
-        ensures { IsOctreeOf (sites_of self.now.bodies) result.now }
+        requires { HasTree self.now.stage }
+        ensures canonical { IsOctreeOf (sites_of self.now.bodies) result.now }
+        ensures tree { tree_of result.now ≡ tree_of_bodies self.now.bodies }
     {
-        match &self.tree {
-            Some(tree) => tree,
+        match &self.last {
+            Some(tree) => tree.octree(),
             None => unreachable!(),
         }
     }
 
     /// How many workers there are, from 1 to 64.
     pub fn workers(&self) -> u32
-        requires { IsFalse self.now.spent }
+        requires { IsUsable self.now.stage }
         ensures { result ≡ self.now.plan.workers }
     {
         self.plan.workers
@@ -172,38 +193,34 @@ impl Engine {
 
     /// The bodies of the zone of worker `w` in the engine's frame, in tree order.
     pub fn zone(&self, w: u32) -> &[u32]
-        requires not_spent { IsFalse self.now.spent }
-        requires frame { IsTrue self.now.has_frame }
+        requires frame { self.now.stage ≡ WithFrame }
         requires worker { w < self.now.plan.workers }
         ensures { result.now ≡ zone (cost_at self.now.costs) self.now.plan.workers w (tree_of_bodies self.now.bodies) }
     {
-        &self.zones[w as usize]
+        match &self.stage {
+            Stage::Frame(parts) => &parts.zones[w as usize],
+            _ => unreachable!(),
+        }
     }
 
     /// The pull of all bodies on body `n` in the engine's frame.
     pub fn pull_of(&self, n: u32) -> Pull
-        requires not_spent { IsFalse self.now.spent }
-        requires frame { IsTrue self.now.has_frame }
+        requires frame { self.now.stage ≡ WithFrame }
         requires body { n < length self.now.bodies }
         ensures { result ≡ pull_on self.now.plan.law self.now.bodies n }
     {
-        self.pulls[n as usize]
+        match &self.stage {
+            Stage::Frame(parts) => parts.pulls[n as usize],
+            _ => unreachable!(),
+        }
     }
 
     /// The point of body `n`.
     pub fn point(&self, n: u32) -> Point
-        requires not_spent { IsFalse self.now.spent }
+        requires usable { IsUsable self.now.stage }
         requires body { n < length self.now.bodies }
         ensures { result ≡ site_at (sites_of self.now.bodies) n }
     {
         self.bodies.get(n).at
     }
-}
-
-/// The canonical octree of bodies' points.
-fn octree_of(alloc: Global, bodies: &Bodies) -> Result<Octree, OutOfMemory>
-    ensures { IfOk result (λ t. IsOctreeOf (sites_of bodies.now) t) }
-{
-    let points = bodies.points(alloc)?;
-    Octree::of_points(alloc, &points)
 }

@@ -2,8 +2,10 @@
 #![tactic(auto)]
 
 mod engine;
-mod made;
+mod shares;
+mod stage;
 mod sums;
+mod tree;
 
 pub use bh_model::{Builder, Plan};
 pub use engine::Engine;

@@ -1,4 +1,4 @@
-//! Reads a scene of bodies from standard input and writes the line of its octree to standard output.
+//! Reads a scene of bodies from standard input, and writes to standard output what the program's words ask for.
 #![tactic(auto)]
 
 use bh_outside::{StdSink, StdSource};

@@ -1,3 +1,2 @@
-mod Numbers
-mod Frames
+mod Rows
 mod Serving

@@ -1,87 +1,148 @@
 -- Why each end of a run meets its promise.
-use Rattle.std.proofs.Common.{◌≡◌, ◌<◌, ℕ, List, [], Option, Some, None, Result, Err, IsSome, length, refl, ap, arith, inr}
-use Rattle.std.proofs.lemmas.List.{length-append}
+use Rattle.std.proofs.Common.{◌≡◌, ◌∙◌, ◌<◌, ℕ, List, [], ◌++◌, Bool, true, false, ◌&&◌, IsFalse, Option, Some, None, Result, Ok, Err, length, cond, refl, sym, ap, subst, arith, inl, inr}
+use Rattle.std.proofs.lemmas.List.{append-nil, length-append}
 use Rattle.std.proofs.lemmas.Bool.Decides.{nat_tests}
-use Rattle.std.specs.Io.KnownBytes.{Consumes}
-use Rattle.bh_outside.specs.Outside.{Rose, Took, TookPrefix}
+use Rattle.std.specs.Io.KnownBytes.{Consumes, IsAtEnd}
+use Rattle.bh_outside.specs.Outside.{Rose}
 use Rattle.bh_outside.proofs.Takings.{no_prefix, took_none}
 use Rattle.scene_file.specs.Scene.{scene_of}
 use Rattle.scene_file.specs.declared.bodies.Body.{Body}
 use Rattle.scene_file.specs.declared.fault.SceneFault.{SceneFault}
 use Rattle.scene_file.specs.declared.fault.SceneFault.TheVariants as fault
 use Rattle.nbody_options.specs.Choices.{Choices}
-use Rattle.nbody_cli.specs.Text.{refused_line, answer_text, usage_line}
-use Rattle.nbody_cli.specs.Serving.{AreLeft, Serves, asked_text}
+use Rattle.nbody_options.specs.Options.{is_served, serves_command}
+use Rattle.nbody_options.specs.declared.options.Command.{Command}
+use Rattle.nbody_options.specs.declared.options.Command.TheVariants as command
+use Rattle.nbody_cli.specs.Serving.{AreLeft, Completes, Ends, Serves, Wanted, World, needs_source, reads_source, sink_world, status_of_fault, wanted, wanted_of_scene, world}
+use Rattle.nbody_cli.specs.Text.{command_text}
+use Rattle.nbody_cli.specs.declared.status.Status.{Status}
 use Rattle.nbody_cli.specs.declared.status.Status.TheVariants as status
 
--- what was left, where it was told, and else other bytes
-abbrev pub left_or : Option (List ℕ) → List ℕ → List ℕ
-left_or None other = other
-left_or (Some xs) other = xs
+-- ---- what is wanted
 
--- which the source told
-are_left : (left : Option (List ℕ)) (other : List ℕ) → AreLeft left (left_or left other)
-are_left None other = tt
-are_left (Some xs) other = refl
+-- a command that is served reads the source
+reads_served : (k : Command) (rest : Bool) → (serves_command k && rest) ≡ true → reads_source k ≡ true
+reads_served command.Tree rest h = refl
+reads_served command.Passes rest h = refl
+reads_served command.Run rest h = refl
+reads_served command.Trial rest h = cc
 
--- where a scene is too long, the text of options is its line
-asked_long : (options : Option Choices) (scene : Result (List Body) SceneFault) → IsSome options → scene ≡ Err fault.TooLong → asked_text options scene ≡ refused_line fault.TooLong
-asked_long (Some o) scene some long = ap (answer_text o) long
-asked_long None scene some long = cc
+reads : (o : Choices) → is_served o ≡ true → reads_source o.command ≡ true
+reads o served = reads_served o.command _ served
+
+-- options that are served need the source
+pub needs : (options : Option Choices) (o : Choices) → options ≡ Some o → is_served o ≡ true → IsFalse (needs_source options) → ⊥
+needs options o e served none =
+    let needed : needs_source options ≡ true = ap needs_source e ∙ reads o served in
+    cc
+
+-- what options that are served want of a scene
+wanted_is : (o : Choices) (bytes : List ℕ) → is_served o ≡ true → wanted (Some o) bytes ≡ wanted_of_scene o (scene_of bytes)
+wanted_is o bytes served =
+    let made : Wanted = record { status = status.Done; text = command_text o []; reads = false } in
+    ap (λ b. cond b (wanted_of_scene o (scene_of bytes)) made) (reads o served)
+
+-- whatever the scene, it has to be read
+reads_scene : (o : Choices) (scene : Result (List Body) SceneFault) → (wanted_of_scene o scene).reads ≡ true
+reads_scene o (Ok bodies) = refl
+reads_scene o (Err f) = refl
 
 -- a scene of too many bytes
 long_scene : (bytes : List ℕ) → 16777216 < length bytes → scene_of bytes ≡ Err fault.TooLong
 long_scene bytes long = grind (arith, nat_tests)
 
+-- a fault that is not want of memory ends a run with its line
+pub fault_ends : (f : SceneFault) → (f ≡ fault.OutOfMemory → ⊥) → status.Scene ≡ status_of_fault f
+fault_ends fault.TooLong told = refl
+fault_ends (fault.BadRecord r) told = refl
+fault_ends (fault.BadNumber r f) told = refl
+fault_ends (fault.OutOfRange r f) told = refl
+fault_ends (fault.TooMany r) told = refl
+fault_ends (fault.MassTotal r) told = refl
+fault_ends (fault.Coincident r a b) told = refl
+fault_ends fault.OutOfMemory told = absurd (told refl)
+
+-- ---- what the source told
+
+-- what was left, where it was told, and else other bytes
+left_or : Option (List ℕ) → List ℕ → List ℕ
+left_or None other = other
+left_or (Some xs) other = xs
+
+are_left : (left : Option (List ℕ)) (other : List ℕ) → AreLeft left (left_or left other)
+unfolding left_or
+are_left None other = tt
+are_left (Some xs) other = refl
+
+-- all bytes were given
+all_left : (left now : Option (List ℕ)) (bytes : List ℕ) → Consumes left now bytes → IsAtEnd now → AreLeft left bytes
+all_left None now bytes gave end = tt
+all_left (Some xs) None bytes gave end = absurd gave
+all_left (Some xs) (Some ys) bytes gave end = gave ∙ ap (λ y. bytes ++ y) end ∙ append-nil bytes
+
 -- more bytes were given, so more were left
 longer : (left now : Option (List ℕ)) (given : List ℕ) (limit : ℕ) → Consumes left now given → limit < length given → limit < length (left_or left given)
+unfolding left_or
 longer None now given limit gave long = long
 longer (Some xs) None given limit gave long = absurd gave
 longer (Some xs) (Some ys) given limit gave long = omega (arith, ap length gave, length-append given ys)
 
+-- ---- the ends of a run
+
+-- an end that the sink tells is that of a run whose source was read to its end
+ends_over : (w : Wanted) (l0 l1 : Option (List ℕ)) (rb rn : ℕ) (wb wn : Option (List ℕ)) (kb kn : ℕ) (s : Status) → IsAtEnd l1 → Ends w (sink_world wb kb) (sink_world wn kn) s
+    → Ends w (world l0 rb wb kb) (world l1 rn wn kn) s
+ends_over w l0 l1 rb rn wb wn kb kn status.Done end h = (h.0, h.1, λ _. end)
+ends_over w l0 l1 rb rn wb wn kb kn status.Usage end h = h
+ends_over w l0 l1 rb rn wb wn kb kn status.Read end h = absurd (omega (arith, h.1))
+ends_over w l0 l1 rb rn wb wn kb kn status.Write end h = h
+ends_over w l0 l1 rb rn wb wn kb kn status.Scene end h = h
+ends_over w l0 l1 rb rn wb wn kb kn status.Memory end h = h
+
+-- where no fault rose, a run ended as was wanted or for want of memory
+completes : (w : Wanted) (before after : World) (s : Status) → Ends w before after s → Completes w before after s
+completes w before after status.Done h quiet still = inl h.0
+completes w before after status.Usage h quiet still = inl h.0
+completes w before after status.Read h quiet still = absurd (quiet h.1)
+completes w before after status.Write h quiet still = absurd (still h.0)
+completes w before after status.Scene h quiet still = inl h.0
+completes w before after status.Memory h quiet still = inr refl
+
+-- a run by its bytes and its end
+serves : (options : Option Choices) (bytes : List ℕ) (before after : World) (s : Status) → AreLeft before.left bytes → Ends (wanted options bytes) before after s → Serves options before after s
+serves options bytes before after s told h = record { bytes = bytes; told = told; ends = h; complete = completes (wanted options bytes) before after s h }
+
 -- memory ran out with nothing written
-pub serves_memory : (options : Option Choices) (l0 l1 : Option (List ℕ)) (rb rn : ℕ) (wb : Option (List ℕ)) (kb kn : ℕ) → Serves options l0 l1 rb rn wb wb kb kn status.Memory
-serves_memory options l0 l1 rb rn wb kb kn =
-    record { bytes = left_or l0 []; told = are_left l0 []; answers = no_prefix wb _; complete = λ some ok quiet still. inr refl }
+pub serves_memory : (options : Option Choices) (l0 l1 : Option (List ℕ)) (rb rn : ℕ) (wb : Option (List ℕ)) (kb kn : ℕ) → Serves options (world l0 rb wb kb) (world l1 rn wb kn) status.Memory
+serves_memory options l0 l1 rb rn wb kb kn = serves options (left_or l0 []) (world l0 rb wb kb) (world l1 rn wb kn) status.Memory (are_left l0 []) (no_prefix wb _)
 
--- the usage line was written
-pub serves_usage : (options : Option Choices) (l0 l1 : Option (List ℕ)) (rb rn : ℕ) (wb w : Option (List ℕ)) (kb kn : ℕ) → options ≡ None → Took wb w usage_line
-    → Serves options l0 l1 rb rn wb w kb kn status.Usage
-serves_usage options l0 l1 rb rn wb w kb kn none took =
-    record { bytes = left_or l0 []; told = are_left l0 []; answers = (none, rw none took); complete = λ some ok quiet still. (let bad = rw none at some in cc) }
-
--- the usage line was not written whole
-pub serves_usage_write : (options : Option Choices) (l0 l1 : Option (List ℕ)) (rb rn : ℕ) (wb w : Option (List ℕ)) (kb kn : ℕ) → options ≡ None → Rose kb kn → TookPrefix wb w usage_line
-    → Serves options l0 l1 rb rn wb w kb kn status.Write
-serves_usage_write options l0 l1 rb rn wb w kb kn none rise took =
-    record { bytes = left_or l0 []; told = are_left l0 []; answers = (rise, rw none took); complete = λ some ok quiet still. absurd (still rise) }
+-- there are no options
+pub serves_usage : (options : Option Choices) (before after : World) (s : Status) → options ≡ None → Ends (wanted None []) before after s → Serves options before after s
+serves_usage options before after s none h =
+    let P : Option Choices → Type 0 = λ o. Serves o before after s in
+    subst P (sym none) (serves None (left_or before.left []) before after s (are_left before.left []) h)
 
 -- a read failed
-pub serves_read : (options : Option Choices) (l0 l1 : Option (List ℕ)) (rb rn : ℕ) (wb : Option (List ℕ)) (kb kn : ℕ) → IsSome options → Rose rb rn
-    → Serves options l0 l1 rb rn wb wb kb kn status.Read
-serves_read options l0 l1 rb rn wb kb kn some rise =
-    record { bytes = left_or l0 []; told = are_left l0 []; answers = (some, rise, took_none wb); complete = λ some ok quiet still. absurd (quiet rise) }
+pub serves_read : (o : Choices) (l0 l1 : Option (List ℕ)) (rb rn : ℕ) (wb : Option (List ℕ)) (kb kn : ℕ) → is_served o ≡ true → Rose rb rn
+    → Serves (Some o) (world l0 rb wb kb) (world l1 rn wb kn) status.Read
+serves_read o l0 l1 rb rn wb kb kn served rise =
+    let bytes = left_or l0 [] in
+    serves (Some o) bytes (world l0 rb wb kb) (world l1 rn wb kn) status.Read (are_left l0 [])
+    (ap (λ (w : Wanted). w.reads) (wanted_is o bytes served) ∙ reads_scene o (scene_of bytes), rise, took_none wb)
 
 -- there were too many bytes
-pub serves_long : (options : Option Choices) (l0 l1 : Option (List ℕ)) (given : List ℕ) (rb rn : ℕ) (wb w : Option (List ℕ)) (kb kn : ℕ) → IsSome options
-    → Consumes l0 l1 given → 16777216 < length given → Took wb w (refused_line fault.TooLong) → Serves options l0 l1 rb rn wb w kb kn status.Scene
-serves_long options l0 l1 given rb rn wb w kb kn some gave long took =
-    let scene = long_scene (left_or l0 given) (longer l0 l1 given 16777216 gave long) in
-    record {
-      bytes = left_or l0 given;
-      told = are_left l0 given;
-      answers = rw (asked_long options (scene_of (left_or l0 given)) some scene, scene) (some, tt, took);
-      complete = λ some ok quiet still. (let bad = rw scene at ok in cc);
-    }
+pub serves_long : (o : Choices) (l0 l1 : Option (List ℕ)) (given : List ℕ) (rb rn : ℕ) (wb wn : Option (List ℕ)) (kb kn : ℕ) (s : Status) → is_served o ≡ true → Consumes l0 l1 given
+    → 16777216 < length given → Ends (wanted_of_scene o (Err fault.TooLong)) (world l0 rb wb kb) (world l1 rn wn kn) s → Serves (Some o) (world l0 rb wb kb) (world l1 rn wn kn) s
+serves_long o l0 l1 given rb rn wb wn kb kn s served gave long h =
+    let bytes = left_or l0 given in
+    let is : wanted (Some o) bytes ≡ wanted_of_scene o (Err fault.TooLong) = wanted_is o bytes served ∙ ap (wanted_of_scene o) (long_scene bytes (longer l0 l1 given 16777216 gave long)) in
+    let P : Wanted → Type 0 = λ w. Ends w (world l0 rb wb kb) (world l1 rn wn kn) s in
+    serves (Some o) bytes (world l0 rb wb kb) (world l1 rn wn kn) s (are_left l0 given) (subst P (sym is) h)
 
--- there were too many bytes, and that was not written whole
-pub serves_long_write : (options : Option Choices) (l0 l1 : Option (List ℕ)) (given : List ℕ) (rb rn : ℕ) (wb w : Option (List ℕ)) (kb kn : ℕ) → IsSome options
-    → Consumes l0 l1 given → 16777216 < length given → Rose kb kn → TookPrefix wb w (refused_line fault.TooLong) → Serves options l0 l1 rb rn wb w kb kn status.Write
-serves_long_write options l0 l1 given rb rn wb w kb kn some gave long rise took =
-    let scene = long_scene (left_or l0 given) (longer l0 l1 given 16777216 gave long) in
-    record {
-      bytes = left_or l0 given;
-      told = are_left l0 given;
-      answers = rw (asked_long options (scene_of (left_or l0 given)) some scene) (rise, took);
-      complete = λ some ok quiet still. absurd (still rise);
-    }
+-- all bytes were read
+pub serves_scene : (o : Choices) (l0 l1 : Option (List ℕ)) (bytes : List ℕ) (rb rn : ℕ) (wb wn : Option (List ℕ)) (kb kn : ℕ) (s : Status) → is_served o ≡ true → Consumes l0 l1 bytes
+    → IsAtEnd l1 → Ends (wanted_of_scene o (scene_of bytes)) (sink_world wb kb) (sink_world wn kn) s → Serves (Some o) (world l0 rb wb kb) (world l1 rn wn kn) s
+serves_scene o l0 l1 bytes rb rn wb wn kb kn s served gave end h =
+    let P : Wanted → Type 0 = λ w. Ends w (world l0 rb wb kb) (world l1 rn wn kn) s in
+    serves (Some o) bytes (world l0 rb wb kb) (world l1 rn wn kn) s (all_left l0 l1 bytes gave end)
+    (subst P (sym (wanted_is o bytes served)) (ends_over (wanted_of_scene o (scene_of bytes)) l0 l1 rb rn wb wn kb kn s end h))

@@ -1,5 +1,5 @@
 -- What a run of the program answers, by what its source and its sink tell.
-use Rattle.std.specs.Prelude.{◌≡◌, ◌⊎◌, ℕ, List, [], Option, None, Some, Result, Ok, Err, IsOk, IsSome, ⊤}
+use Rattle.std.specs.Prelude.{◌≡◌, ◌⊎◌, ℕ, List, [], Bool, true, false, IsTrue, Option, None, Some, Result, Ok, Err, ⊤, if◌then◌else◌}
 use Rattle.std.specs.Io.KnownBytes.{IsAtEnd}
 use Rattle.bh_outside.specs.Outside.{Rose, Took, TookPrefix}
 use Rattle.scene_file.specs.Scene.{scene_of}
@@ -7,61 +7,89 @@ use Rattle.scene_file.specs.declared.bodies.Body.{Body}
 use Rattle.scene_file.specs.declared.fault.SceneFault.{SceneFault}
 use Rattle.scene_file.specs.declared.fault.SceneFault.TheVariants as fault
 use Rattle.nbody_options.specs.Choices.{Choices}
-use Rattle.nbody_cli.specs.Text.{answer_text, usage_line}
+use Rattle.nbody_options.specs.declared.options.Command.{Command}
+use Rattle.nbody_options.specs.declared.options.Command.TheVariants as command
+use Rattle.nbody_cli.specs.Text.{command_text, refused_line, usage_line}
 use Rattle.nbody_cli.specs.declared.status.Status.{Status}
 use Rattle.nbody_cli.specs.declared.status.Status.TheVariants as status
 
--- the text that the options of the words and the scene ask for
-abbrev pub asked_text : Option Choices → Result (List Body) SceneFault → List ℕ
-asked_text (Some options) scene = answer_text options scene
-asked_text None scene = usage_line
+-- ---- what is wanted
+
+-- what is wanted of a run that meets no failure: the status that ends it, the text, and whether the source is read to its end
+pub record Wanted : Type 0 where
+  pub status : Status
+  pub text : List ℕ
+  pub reads : Bool
+
+-- a command reads the scene from the source, or makes it
+abbrev pub reads_source : Command → Bool
+reads_source command.Trial = false
+reads_source _ = true
+
+-- the source is needed: there are options, and their command reads it
+abbrev pub needs_source : Option Choices → Bool
+needs_source None = false
+needs_source (Some o) = reads_source o.command
+
+-- a scene's first fault ends a run, and `OutOfMemory` is none
+abbrev pub status_of_fault : SceneFault → Status
+status_of_fault fault.OutOfMemory = status.Memory
+status_of_fault _ = status.Scene
+
+-- the text of a command over the bodies of the source's scene
+abbrev pub wanted_of_bodies : List ℕ → Wanted
+wanted_of_bodies text = record { status = status.Done; text = text; reads = true }
+
+-- what is wanted of a command that reads the source, by the source's scene: its text over the bodies, or the line of the first fault
+abbrev pub wanted_of_scene : Choices → Result (List Body) SceneFault → Wanted
+wanted_of_scene o (Ok bodies) = wanted_of_bodies (command_text o bodies)
+wanted_of_scene o (Err f) = record { status = status_of_fault f; text = refused_line f; reads = true }
+
+-- what is wanted, by the options and the bytes of the source: without options it is the usage line
+abbrev pub wanted : Option Choices → List ℕ → Wanted
+wanted None bytes = record { status = status.Usage; text = usage_line; reads = false }
+wanted (Some o) bytes =
+    if reads_source o.command then wanted_of_scene o (scene_of bytes)
+    else record { status = status.Done; text = command_text o []; reads = false }
+
+-- ---- what is answered
+
+-- what a source and a sink tell: the bytes still to come and those that were written, where they tell them, and how often each has failed
+pub record World : Type 0 where
+  pub left : Option (List ℕ)
+  pub read_faults : ℕ
+  pub written : Option (List ℕ)
+  pub write_faults : ℕ
+
+abbrev pub world : (left : Option (List ℕ)) (read_faults : ℕ) (written : Option (List ℕ)) (write_faults : ℕ) → World
+world left read_faults written write_faults = record { left = left; read_faults = read_faults; written = written; write_faults = write_faults }
+
+-- what a sink tells, beside a source that tells nothing and never fails
+abbrev pub sink_world : (written : Option (List ℕ)) (faults : ℕ) → World
+sink_world written faults = world None 0 written faults
+
+-- How a run ends, by what is wanted. At the status that is wanted the text was written whole. Read and Write blame the source and the
+-- sink, Memory is free, and the text was not begun at Read and is a prefix at Write and at Memory.
+abbrev pub Ends : Wanted → (before after : World) → Status → Type 0
+Ends w before after status.Read = IsTrue w.reads × Rose before.read_faults after.read_faults × Took before.written after.written []
+Ends w before after status.Write = Rose before.write_faults after.write_faults × TookPrefix before.written after.written w.text
+Ends w before after status.Memory = TookPrefix before.written after.written w.text
+Ends w before after status.Done = (status.Done ≡ w.status) × Took before.written after.written w.text × (IsTrue w.reads → IsAtEnd after.left)
+Ends w before after whole = (whole ≡ w.status) × Took before.written after.written w.text
+
+-- where no read and no write failed, a run ends as is wanted, or memory ran out
+abbrev pub Completes : Wanted → (before after : World) → Status → Type 0
+Completes w before after answer =
+    (Rose before.read_faults after.read_faults → ⊥) → (Rose before.write_faults after.write_faults → ⊥) → (answer ≡ w.status) ⊎ (answer ≡ status.Memory)
 
 -- the bytes are those that the source told, where it tells any
 abbrev pub AreLeft : Option (List ℕ) → List ℕ → Type 0
 AreLeft None bytes = ⊤
 AreLeft (Some left) bytes = left ≡ bytes
 
--- the scene has a first fault of its own
-abbrev pub IsRefused : Result (List Body) SceneFault → Type 0
-IsRefused (Ok bodies) = ⊥
-IsRefused (Err fault.OutOfMemory) = ⊥
-IsRefused (Err told) = ⊤
-
--- what each status says of the writing of the text of an accepted scene
-abbrev pub AnswersText : (text : List ℕ) (wrote_before wrote : Option (List ℕ)) (faults_before faults : ℕ) → Status → Type 0
-AnswersText text wb w fb f status.Done = Took wb w text
-AnswersText text wb w fb f status.Usage = ⊥
-AnswersText text wb w fb f status.Read = ⊥
-AnswersText text wb w fb f status.Write = Rose fb f × TookPrefix wb w text
-AnswersText text wb w fb f status.Scene = ⊥
-AnswersText text wb w fb f status.Memory = Took wb w []
-
--- what each status says of the writing of the text of the options over a scene
-abbrev pub AnswersScene : (options : Choices) (scene : Result (List Body) SceneFault) (wrote_before wrote : Option (List ℕ)) (faults_before faults : ℕ) → Status → Type 0
-AnswersScene options scene wb w fb f status.Done = IsOk scene × Took wb w (answer_text options scene)
-AnswersScene options scene wb w fb f status.Usage = ⊥
-AnswersScene options scene wb w fb f status.Read = ⊥
-AnswersScene options scene wb w fb f status.Write = Rose fb f × TookPrefix wb w (answer_text options scene)
-AnswersScene options scene wb w fb f status.Scene = IsRefused scene × Took wb w (answer_text options scene)
-AnswersScene options scene wb w fb f status.Memory = Took wb w []
-
--- what each status says of a run
-abbrev pub Answers : (options : Option Choices) (scene : Result (List Body) SceneFault) (read_faults_before read_faults : ℕ) (left : Option (List ℕ)) (wrote_before wrote : Option (List ℕ)) (write_faults_before write_faults : ℕ)
-    → Status → Type 0
-Answers options scene rb r left wb w fb f status.Done = IsSome options × IsOk scene × IsAtEnd left × Took wb w (asked_text options scene)
-Answers options scene rb r left wb w fb f status.Usage = (options ≡ None) × Took wb w (asked_text options scene)
-Answers options scene rb r left wb w fb f status.Read = IsSome options × Rose rb r × Took wb w []
-Answers options scene rb r left wb w fb f status.Write = Rose fb f × TookPrefix wb w (asked_text options scene)
-Answers options scene rb r left wb w fb f status.Scene = IsSome options × IsRefused scene × Took wb w (asked_text options scene)
-Answers options scene rb r left wb w fb f status.Memory = TookPrefix wb w (asked_text options scene)
-
--- where there are options, the scene is accepted, and no read and no write failed, the run is done or memory ran out
-abbrev pub Completes : (options : Option Choices) (scene : Result (List Body) SceneFault) (read_faults_before read_faults write_faults_before write_faults : ℕ) → Status → Type 0
-Completes options scene rb r fb f answer = IsSome options → IsOk scene → (Rose rb r → ⊥) → (Rose fb f → ⊥) → (answer ≡ status.Done) ⊎ (answer ≡ status.Memory)
-
--- a run, for some list of bytes that is what the source told: at Done the text of the options over the scene is what was written
-pub record Serves (options : Option Choices) (left_before left : Option (List ℕ)) (read_faults_before read_faults : ℕ) (wrote_before wrote : Option (List ℕ)) (write_faults_before write_faults : ℕ) (answer : Status) : Type 0 where
+-- a run, for some list of bytes that is what the source told
+pub record Serves (options : Option Choices) (before after : World) (answer : Status) : Type 0 where
   pub bytes : List ℕ
-  pub told : AreLeft left_before bytes
-  pub answers : Answers options (scene_of bytes) read_faults_before read_faults left wrote_before wrote write_faults_before write_faults answer
-  pub complete : Completes options (scene_of bytes) read_faults_before read_faults write_faults_before write_faults answer
+  pub told : AreLeft before.left bytes
+  pub ends : Ends (wanted options bytes) before after answer
+  pub complete : Completes (wanted options bytes) before after answer

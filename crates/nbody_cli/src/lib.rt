@@ -7,5 +7,8 @@ mod service;
 mod status;
 mod text;
 
+pub use nbody_options::{
+    Command, Kind, Made, Options, OptionsFault, ProbeChoice, Shape, read_options,
+};
 pub use service::serve;
 pub use status::Status;

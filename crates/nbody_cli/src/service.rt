@@ -1,18 +1,20 @@
 //! The top call.
 
-ghost use Rattle.std.specs.Prelude.{◌≡◌, ◌≤◌, IsFalse, IsTrue, None, map, string_bytes, true};
+ghost use Rattle.std.specs.Prelude.{◌≡◌, [], ◌∷◌, IsFalse, Some, map, string_bytes, true};
 ghost use Rattle.bh_outside.specs.Outside.{KeepsSure};
-ghost use Rattle.scene_file.specs.Scene.{scene_of};
-ghost use Rattle.nbody_cli.specs.Serving.{AnswersScene, AnswersText, Serves};
-ghost use Rattle.nbody_cli.specs.Frames.{text_of_frame};
-ghost use Rattle.nbody_cli.specs.Lines.{tree_line};
-ghost use Rattle.nbody_cli.specs.Text.{command_text};
+ghost use Rattle.frame_core.specs.Engines.{WithTree};
 ghost use Rattle.frame_core.specs.Frames.{tree_of_bodies};
+ghost use Rattle.scene_file.specs.Scene.{scene_of};
+ghost use Rattle.nbody_cli.specs.Frames.{frame_lines};
+ghost use Rattle.nbody_cli.specs.Lines.{TreeLine, lines_text};
+ghost use Rattle.nbody_cli.specs.Serving.{Ends, Serves, needs_source, sink_world, wanted_of_bodies, wanted_of_scene, world};
+ghost use Rattle.nbody_cli.specs.Text.{command_text};
 ghost use Rattle.nbody_options.specs.Options.{is_served, options_of};
 
 use crate::frame_text::write_frame;
+use crate::lines::{Line, write_lines};
 use crate::status::Status;
-use crate::text::{write_refused, write_tree_line, write_usage};
+use crate::text::{write_refused, write_usage};
 use bh_outside::{Input, ReadAllFault, Sink, Source, read_all};
 use frame_core::Engine;
 use nbody_options::{Command, Options, OptionsFault, read_options};
@@ -20,11 +22,8 @@ use scene_file::{Bodies, MOST_BYTES, SceneFault, read_scene};
 
 /// Writes the frame of an engine whose bodies have their tree.
 fn answer_run<R, K: Sink>(rt: &R, engine: &mut Engine, sink: &mut K) -> Status
-    requires not_spent { IsFalse engine.old.spent }
-    requires tree { IsTrue engine.old.has_tree }
-    requires no_frame { IsFalse engine.old.has_frame }
-    ensures answers { AnswersText (text_of_frame engine.old) (K.written sink.old) (K.written sink.new) (K.faults sink.old) (K.faults sink.new) result }
-    ensures later { K.faults sink.old ≤ K.faults sink.new }
+    requires { engine.old.stage ≡ WithTree }
+    ensures { Ends (wanted_of_bodies (lines_text (frame_lines engine.old))) (sink_world (K.written sink.old) (K.faults sink.old)) (sink_world (K.written sink.new) (K.faults sink.new)) result }
 {
     match engine.frame(rt) {
         Ok(frame) => match write_frame(sink, engine, &frame) {
@@ -37,12 +36,10 @@ fn answer_run<R, K: Sink>(rt: &R, engine: &mut Engine, sink: &mut K) -> Status
 
 /// Writes the line of the tree of an engine.
 fn answer_tree<K: Sink>(engine: &Engine, sink: &mut K) -> Status
-    requires not_spent { IsFalse engine.now.spent }
-    requires tree { IsTrue engine.now.has_tree }
-    ensures answers { AnswersText (tree_line (tree_of_bodies engine.now.bodies)) (K.written sink.old) (K.written sink.new) (K.faults sink.old) (K.faults sink.new) result }
-    ensures later { K.faults sink.old ≤ K.faults sink.new }
+    requires { engine.now.stage ≡ WithTree }
+    ensures { Ends (wanted_of_bodies (lines_text (TreeLine (tree_of_bodies engine.now.bodies) ∷ []))) (sink_world (K.written sink.old) (K.faults sink.old)) (sink_world (K.written sink.new) (K.faults sink.new)) result }
 {
-    match write_tree_line(sink, engine.octree()) {
+    match write_lines(sink, &[Line::Tree(engine.octree())]) {
         Ok(()) => Status::Done,
         Err(_) => Status::Write,
     }
@@ -57,8 +54,7 @@ fn answer_bodies<R: AllocGlobal, K: Sink>(
     sink: &mut K,
 ) -> Status
     requires { is_served options.now ≡ true }
-    ensures answers { AnswersText (command_text options.now bodies) (K.written sink.old) (K.written sink.new) (K.faults sink.old) (K.faults sink.new) result }
-    ensures later { K.faults sink.old ≤ K.faults sink.new }
+    ensures { Ends (wanted_of_bodies (command_text options.now bodies)) (sink_world (K.written sink.old) (K.faults sink.old)) (sink_world (K.written sink.new) (K.faults sink.new)) result }
 {
     let mut engine = match Engine::open(rt.alloc(), options.plan, bodies) {
         Ok(engine) => engine,
@@ -83,8 +79,7 @@ fn answer_scene<R: AllocGlobal, K: Sink>(
     sink: &mut K,
 ) -> Status
     requires { is_served options.now ≡ true }
-    ensures answers { AnswersScene options.now (scene_of bytes.now) (K.written sink.old) (K.written sink.new) (K.faults sink.old) (K.faults sink.new) result }
-    ensures later { K.faults sink.old ≤ K.faults sink.new }
+    ensures { Ends (wanted_of_scene options.now (scene_of bytes.now)) (sink_world (K.written sink.old) (K.faults sink.old)) (sink_world (K.written sink.new) (K.faults sink.new)) result }
 {
     match read_scene(rt.alloc(), bytes) {
         Ok(scene) => answer_bodies(rt, options, scene.bodies, sink),
@@ -96,37 +91,50 @@ fn answer_scene<R: AllocGlobal, K: Sink>(
     }
 }
 
-/// Does what the words ask for: reads the scene from the source to its end, and writes the text to
+/// Does what the options ask for: reads the scene from the source to its end, and writes the text to
 /// the sink. It writes nothing before the whole input is read.
-pub fn serve<R: AllocGlobal, S: Source, K: Sink>(
+fn serve_options<R: AllocGlobal, S: Source, K: Sink>(
     rt: &R,
-    words: &[String],
+    options: &Options,
     source: &mut S,
     sink: &mut K,
 ) -> Status
-    ensures serves { Serves (options_of (map string_bytes words.now)) (S.left source.old) (S.left source.new) (S.faults source.old) (S.faults source.new)
-        (K.written sink.old) (K.written sink.new) (K.faults sink.old) (K.faults sink.new) result }
+    requires { is_served options.now ≡ true }
+    ensures serves { Serves (Some options.now) (world (S.left source.old) (S.faults source.old) (K.written sink.old) (K.faults sink.old))
+        (world (S.left source.new) (S.faults source.new) (K.written sink.new) (K.faults sink.new)) result }
     ensures sure { KeepsSure (S.sure source.old) (S.sure source.new) (S.faults source.old) (S.faults source.new) }
-    ensures untouched { options_of (map string_bytes words.now) ≡ None → source.new ≡ source.old }
 {
-    let alloc = rt.alloc();
-    let options = match read_options(alloc, words) {
-        Ok(options) => options,
-        Err(OptionsFault::OutOfMemory) => return Status::Memory,
-        Err(OptionsFault::Usage) => {
-            return match write_usage(sink) {
-                Ok(()) => Status::Usage,
-                Err(_) => Status::Write,
-            };
-        }
-    };
-    match read_all(alloc, source, MOST_BYTES) {
-        Ok(Input::Whole(bytes)) => answer_scene(rt, &options, &bytes, sink),
+    match read_all(rt.alloc(), source, MOST_BYTES) {
+        Ok(Input::Whole(bytes)) => answer_scene(rt, options, &bytes, sink),
         Ok(Input::TooLong) => match write_refused(sink, SceneFault::TooLong) {
             Ok(()) => Status::Scene,
             Err(_) => Status::Write,
         },
         Err(ReadAllFault::Failed) => Status::Read,
         Err(ReadAllFault::OutOfMemory) => Status::Memory,
+    }
+}
+
+/// Does what the words ask for: reads the scene from the source to its end, and writes the text to
+/// the sink. It writes nothing before the whole input is read. Where the words have no options the
+/// text is the usage line.
+pub fn serve<R: AllocGlobal, S: Source, K: Sink>(
+    rt: &R,
+    words: &[String],
+    source: &mut S,
+    sink: &mut K,
+) -> Status
+    ensures serves { Serves (options_of (map string_bytes words.now)) (world (S.left source.old) (S.faults source.old) (K.written sink.old) (K.faults sink.old))
+        (world (S.left source.new) (S.faults source.new) (K.written sink.new) (K.faults sink.new)) result }
+    ensures sure { KeepsSure (S.sure source.old) (S.sure source.new) (S.faults source.old) (S.faults source.new) }
+    ensures untouched { IsFalse (needs_source (options_of (map string_bytes words.now))) → source.new ≡ source.old }
+{
+    match read_options(rt.alloc(), words) {
+        Ok(options) => serve_options(rt, &options, source, sink),
+        Err(OptionsFault::OutOfMemory) => Status::Memory,
+        Err(OptionsFault::Usage) => match write_usage(sink) {
+            Ok(()) => Status::Usage,
+            Err(_) => Status::Write,
+        },
     }
 }

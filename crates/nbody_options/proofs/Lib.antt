@@ -1,4 +1,4 @@
+pub mod Choosing
 pub mod ClapLine
 pub mod PlainWords
-pub mod Reads
 pub mod Served

@@ -1,21 +1,29 @@
-use Rattle.std.proofs.Common.{◌++◌, ◌∷◌, []}
-use Rattle.nbody_cli.specs.Lines.{newline, part, line, spaced, tree_line}
-use Rattle.std.proofs.Common.{decimal, codes}
-use Rattle.bh_model.specs.Trees.{depth}
+use Rattle.std.proofs.Common.{◌≡◌, ◌++◌, ◌∙◌, List, ℕ, ap, subst}
+use Rattle.bh_model.specs.Trees.{Tree}
+use Rattle.bh_outside.specs.Text.{PutsAll, PutsFront}
+use Rattle.frame_core.specs.Engines.{frame_of}
+use Rattle.frame_core.specs.Frames.{tree_of_bodies}
+use Rattle.nbody_cli.proofs.Rows.{list_stop, list_then}
+use Rattle.nbody_cli.specs.Frames.{body_lines, head_lines, zone_lines}
+use Rattle.nbody_cli.specs.Lines.{TextLine, line_text, lines_text}
 use Rattle.octree.specs.Stored.{tree_of}
-use Rattle.nbody_cli.specs.Frames.{head_of, lines_below, zone_line_of, body_line_of}
-use Rattle.std.proofs.Common.{length}
-use Rattle.bh_outside.proofs.Texts.{puts_fail, puts_failed, puts_stop, puts_then}
+use Rattle.probe.specs.Figures.{FrameFigures}
 use Rattle.nbody_cli.proofs.frame_text.put_frame.Goals as goal
+
+-- the head by equal trees and figures
+head_is : (t t' : Tree) (f f' : FrameFigures) → t ≡ t' → f ≡ f' → head_lines t f ≡ head_lines t' f'
+head_is t t' f f' trees figures = ap (λ (u : Tree). head_lines u f) trees ∙ ap (λ (g : FrameFigures). head_lines t' g) figures
 
 pub returns-in_err-put_head-clause-text : goal.returns-in_err-put_head-clause-text
 returns-in_err-put_head-clause-text g c =
-    puts_stop (g.K.Sink.written c.args.sink.now) (g.K.Sink.written c.put_head.new.sink) c.args.buffer.now c.put_head.new.buffer (head_of c.args.engine.now ++ (lines_below (zone_line_of c.args.engine.now) c.args.engine.now.plan.workers ++ (lines_below (body_line_of c.args.engine.now) (length c.args.engine.now.bodies)))) c.from_residual.result c.from_residual.ensures.0 (puts_failed (g.K.Sink.written c.args.sink.now) (g.K.Sink.written c.put_head.new.sink) c.args.buffer.now (head_of c.args.engine.now) (lines_below (zone_line_of c.args.engine.now) c.args.engine.now.plan.workers ++ (lines_below (body_line_of c.args.engine.now) (length c.args.engine.now.bodies))) c.in_err-put_head.ensures.text)
-
-pub returns-in_err-put_zone_lines-clause-text : goal.returns-in_err-put_zone_lines-clause-text
-returns-in_err-put_zone_lines-clause-text g c =
-    puts_stop (g.K.Sink.written c.args.sink.now) (g.K.Sink.written c.put_zone_lines.new.sink) c.args.buffer.now c.put_zone_lines.new.buffer (head_of c.args.engine.now ++ (lines_below (zone_line_of c.args.engine.now) c.args.engine.now.plan.workers ++ (lines_below (body_line_of c.args.engine.now) (length c.args.engine.now.bodies)))) c.from_residual-in_err-put_zone_lines.result c.from_residual-in_err-put_zone_lines.ensures.0 (puts_fail (g.K.Sink.written c.args.sink.now) (g.K.Sink.written c.put_head.new.sink) (g.K.Sink.written c.put_zone_lines.new.sink) c.args.buffer.now c.put_head.new.buffer (head_of c.args.engine.now) (lines_below (zone_line_of c.args.engine.now) c.args.engine.now.plan.workers ++ (lines_below (body_line_of c.args.engine.now) (length c.args.engine.now.bodies))) c.in_ok-put_head.ensures.text (puts_failed (g.K.Sink.written c.put_head.new.sink) (g.K.Sink.written c.put_zone_lines.new.sink) c.put_head.new.buffer (lines_below (zone_line_of c.args.engine.now) c.args.engine.now.plan.workers) (lines_below (body_line_of c.args.engine.now) (length c.args.engine.now.bodies)) c.in_err-put_zone_lines.ensures.text))
+    let e = c.args.engine.now in
+    let same = head_is (tree_of c.octree.result.now) (tree_of_bodies e.bodies) c.args.frame.now (frame_of e) c.octree.ensures.tree c.requires.figures in
+    let P : List TextLine → Type 0 = λ lines. PutsFront (g.K.Sink.written c.args.sink.now) (g.K.Sink.written c.put_head.new.sink) c.args.buffer.now (lines_text lines) in
+    list_stop line_text (head_lines (tree_of_bodies e.bodies) (frame_of e)) (zone_lines e ++ body_lines e) _ _ _ _ _ c.from_residual.ensures.0 (subst P same c.in_err-put_head.ensures.text)
 
 pub returns-clause-text : goal.returns-clause-text
 returns-clause-text g c =
-    puts_then (g.K.Sink.written c.args.sink.now) (g.K.Sink.written c.put_head.new.sink) (g.K.Sink.written c.put_body_lines.new.sink) c.args.buffer.now c.put_head.new.buffer c.put_body_lines.new.buffer (head_of c.args.engine.now) (lines_below (zone_line_of c.args.engine.now) c.args.engine.now.plan.workers ++ (lines_below (body_line_of c.args.engine.now) (length c.args.engine.now.bodies))) c.put_body_lines.result c.in_ok-put_head.ensures.text (puts_then (g.K.Sink.written c.put_head.new.sink) (g.K.Sink.written c.put_zone_lines.new.sink) (g.K.Sink.written c.put_body_lines.new.sink) c.put_head.new.buffer c.put_zone_lines.new.buffer c.put_body_lines.new.buffer (lines_below (zone_line_of c.args.engine.now) c.args.engine.now.plan.workers) (lines_below (body_line_of c.args.engine.now) (length c.args.engine.now.bodies)) c.put_body_lines.result c.in_ok-put_zone_lines.ensures.text (c.put_body_lines.ensures.text))
+    let e = c.args.engine.now in
+    let same = head_is (tree_of c.octree.result.now) (tree_of_bodies e.bodies) c.args.frame.now (frame_of e) c.octree.ensures.tree c.requires.figures in
+    let P : List TextLine → Type 0 = λ lines. PutsAll (g.K.Sink.written c.args.sink.now) (g.K.Sink.written c.put_head.new.sink) c.args.buffer.now c.put_head.new.buffer (lines_text lines) in
+    list_then line_text (head_lines (tree_of_bodies e.bodies) (frame_of e)) (zone_lines e ++ body_lines e) _ _ _ _ _ _ _ (subst P same c.in_ok-put_head.ensures.text) c.put_rows.ensures.text

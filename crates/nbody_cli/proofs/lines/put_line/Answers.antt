@@ -1,17 +1,13 @@
-use Rattle.std.proofs.Common.{◌++◌, ◌∷◌, []}
-use Rattle.nbody_cli.specs.Lines.{newline, part, line, spaced, tree_line}
-use Rattle.std.proofs.Common.{decimal, codes}
-use Rattle.bh_outside.proofs.Texts.{puts_fail, puts_failed, puts_stop, puts_then}
+use Rattle.std.proofs.Common.{◌++◌}
+use Rattle.bh_outside.proofs.Texts.{puts_failed, puts_stop, puts_then}
+use Rattle.nbody_cli.specs.Lines.{line_start, newline}
+use Rattle.nbody_cli.specs.Seen.{line_of}
 use Rattle.nbody_cli.proofs.lines.put_line.Goals as goal
 
-pub returns-in_err-put-clause-text : goal.returns-in_err-put-clause-text
-returns-in_err-put-clause-text g c =
-    puts_stop (g.K.Sink.written c.args.sink.now) (g.K.Sink.written c.put.new.sink) c.args.buffer.now c.put.new.self (c.args.words.now ++ (spaced g.I.Integer.text c.args.numbers.now ++ (newline))) c.from_residual.result c.from_residual.ensures.0 (puts_failed (g.K.Sink.written c.args.sink.now) (g.K.Sink.written c.put.new.sink) c.args.buffer.now (c.args.words.now) (spaced g.I.Integer.text c.args.numbers.now ++ (newline)) c.in_err-put.ensures.text)
-
-pub returns-in_err-put_numbers-clause-text : goal.returns-in_err-put_numbers-clause-text
-returns-in_err-put_numbers-clause-text g c =
-    puts_stop (g.K.Sink.written c.args.sink.now) (g.K.Sink.written c.put_numbers.new.sink) c.args.buffer.now c.put_numbers.new.buffer (c.args.words.now ++ (spaced g.I.Integer.text c.args.numbers.now ++ (newline))) c.from_residual-in_err-put_numbers.result c.from_residual-in_err-put_numbers.ensures.0 (puts_fail (g.K.Sink.written c.args.sink.now) (g.K.Sink.written c.put.new.sink) (g.K.Sink.written c.put_numbers.new.sink) c.args.buffer.now c.put.new.self (c.args.words.now) (spaced g.I.Integer.text c.args.numbers.now ++ (newline)) c.in_ok-put.ensures.text (puts_failed (g.K.Sink.written c.put.new.sink) (g.K.Sink.written c.put_numbers.new.sink) c.put.new.self (spaced g.I.Integer.text c.args.numbers.now) (newline) c.in_err-put_numbers.ensures.text))
+pub returns-in_err-put_start-clause-text : goal.returns-in_err-put_start-clause-text
+returns-in_err-put_start-clause-text g c =
+    let start = line_start (line_of c.args.line.now) in
+    puts_stop _ _ _ _ (start ++ newline) _ c.from_residual.ensures.0 (puts_failed _ _ _ start newline c.in_err-put_start.ensures.text)
 
 pub returns-clause-text : goal.returns-clause-text
-returns-clause-text g c =
-    puts_then (g.K.Sink.written c.args.sink.now) (g.K.Sink.written c.put.new.sink) (g.K.Sink.written c.put_byte.new.sink) c.args.buffer.now c.put.new.self c.put_byte.new.self (c.args.words.now) (spaced g.I.Integer.text c.args.numbers.now ++ (newline)) c.put_byte.result c.in_ok-put.ensures.text (puts_then (g.K.Sink.written c.put.new.sink) (g.K.Sink.written c.put_numbers.new.sink) (g.K.Sink.written c.put_byte.new.sink) c.put.new.self c.put_numbers.new.buffer c.put_byte.new.self (spaced g.I.Integer.text c.args.numbers.now) (newline) c.put_byte.result c.in_ok-put_numbers.ensures.text (c.put_byte.ensures.text))
+returns-clause-text g c = puts_then _ _ _ _ _ _ (line_start (line_of c.args.line.now)) newline _ c.in_ok-put_start.ensures.text c.put_byte.ensures.text

@@ -1,35 +1,35 @@
-use Rattle.std.proofs.Common.{◌≡◌, ◌∙◌, List, ℕ, sym, ap, subst}
+use Rattle.std.proofs.Common.{◌≡◌, ◌∙◌, [], ◌∷◌, List, sym, ap, subst}
 use Rattle.frame_core.specs.Engines.{EngineState, opened, with_tree}
 use Rattle.frame_core.specs.Frames.{tree_of_bodies}
 use Rattle.nbody_options.specs.Choices.{Choices}
 use Rattle.nbody_options.specs.declared.options.Command.{Command}
 use Rattle.nbody_options.specs.declared.options.Command.TheVariants as command
-use Rattle.nbody_cli.specs.Frames.{text_of_frame}
-use Rattle.nbody_cli.specs.Lines.{tree_line}
-use Rattle.nbody_cli.specs.Serving.{AnswersText}
-use Rattle.nbody_cli.specs.Text.{command_text, text_of_command}
+use Rattle.nbody_cli.specs.Frames.{frame_lines}
+use Rattle.nbody_cli.specs.Lines.{TextLine, TreeLine, lines_text}
+use Rattle.nbody_cli.specs.Serving.{Ends, sink_world, wanted_of_bodies}
+use Rattle.nbody_cli.specs.Text.{command_lines}
 use Rattle.nbody_cli.proofs.service.answer_bodies.Goals as goal
 
-pub returns-in-Tree-clause-answers : goal.returns-in-Tree-clause-answers
-returns-in-Tree-clause-answers g c =
+pub returns-in-Tree : goal.returns-in-Tree
+returns-in-Tree g c =
     let bodies = c.args.bodies in
     let p = c.args.options.now in
     let engine : c.tree.new.self ≡ with_tree (opened c.options.inside.plan bodies) = c.in-Ok-tree.ensures.made ∙ ap with_tree c.in-Ok.ensures in
-    let written = ap (λ (e : EngineState). tree_line (tree_of_bodies e.bodies)) engine in
-    let planned = ap (λ (q : Choices). text_of_command command.Tree q bodies) c.options.view_is in
+    let written = ap (λ (e : EngineState). TreeLine (tree_of_bodies e.bodies) ∷ []) engine in
+    let planned = ap (λ (q : Choices). command_lines command.Tree q bodies) c.options.view_is in
     let named : p.command ≡ command.Tree = sym (ap (λ (q : Choices). q.command) c.options.view_is) ∙ c.in-Tree.is in
-    let asked = ap (λ (k : Command). text_of_command k p bodies) named in
-    subst (λ (y : List ℕ). AnswersText y (g.K.Sink.written c.args.sink.now) (g.K.Sink.written c.answer_tree.new.sink) (g.K.Sink.faults c.args.sink.now) (g.K.Sink.faults c.answer_tree.new.sink) c.answer_tree.result)
-    (written ∙ planned ∙ sym asked) c.answer_tree.ensures.answers
+    let asked = ap (λ (k : Command). command_lines k p bodies) named in
+    subst (λ (y : List TextLine). Ends (wanted_of_bodies (lines_text y)) (sink_world (g.K.Sink.written c.args.sink.now) (g.K.Sink.faults c.args.sink.now)) (sink_world (g.K.Sink.written c.answer_tree.new.sink) (g.K.Sink.faults c.answer_tree.new.sink)) c.answer_tree.result)
+    (written ∙ planned ∙ sym asked) c.answer_tree.ensures
 
-pub returns-in-Run-clause-answers : goal.returns-in-Run-clause-answers
-returns-in-Run-clause-answers g c =
+pub returns-in-Run : goal.returns-in-Run
+returns-in-Run g c =
     let bodies = c.args.bodies in
     let p = c.args.options.now in
     let engine : c.tree.new.self ≡ with_tree (opened c.options.inside.plan bodies) = c.in-Ok-tree.ensures.made ∙ ap with_tree c.in-Ok.ensures in
-    let written = ap (λ (e : EngineState). text_of_frame e) engine in
-    let planned = ap (λ (q : Choices). text_of_command command.Run q bodies) c.options.view_is in
+    let written = ap (λ (e : EngineState). frame_lines e) engine in
+    let planned = ap (λ (q : Choices). command_lines command.Run q bodies) c.options.view_is in
     let named : p.command ≡ command.Run = sym (ap (λ (q : Choices). q.command) c.options.view_is) ∙ c.in-Run.is in
-    let asked = ap (λ (k : Command). text_of_command k p bodies) named in
-    subst (λ (y : List ℕ). AnswersText y (g.K.Sink.written c.args.sink.now) (g.K.Sink.written c.answer_run.new.sink) (g.K.Sink.faults c.args.sink.now) (g.K.Sink.faults c.answer_run.new.sink) c.answer_run.result)
-    (written ∙ planned ∙ sym asked) c.answer_run.ensures.answers
+    let asked = ap (λ (k : Command). command_lines k p bodies) named in
+    subst (λ (y : List TextLine). Ends (wanted_of_bodies (lines_text y)) (sink_world (g.K.Sink.written c.args.sink.now) (g.K.Sink.faults c.args.sink.now)) (sink_world (g.K.Sink.written c.answer_run.new.sink) (g.K.Sink.faults c.answer_run.new.sink)) c.answer_run.result)
+    (written ∙ planned ∙ sym asked) c.answer_run.ensures

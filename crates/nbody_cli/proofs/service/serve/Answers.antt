@@ -1,34 +1,31 @@
+use Rattle.std.proofs.Common.{map, refl}
+use Rattle.std.specs.Prelude.{string_bytes}
 use Rattle.nbody_options.proofs.Served.{options_are_served}
-use Rattle.std.proofs.Common.{refl}
-use Rattle.nbody_cli.proofs.Serving.{serves_long, serves_long_write, serves_memory, serves_read, serves_usage, serves_usage_write}
+use Rattle.nbody_options.specs.Options.{options_of}
+use Rattle.nbody_cli.proofs.Serving.{needs, serves_memory, serves_usage}
+use Rattle.nbody_cli.specs.Serving.{world}
+use Rattle.nbody_cli.specs.declared.status.Status.TheVariants as status
 use Rattle.nbody_cli.proofs.service.serve.Goals as goal
 
+pub serve_options-requires : goal.serve_options-requires
+serve_options-requires g c = options_are_served _ c.in-Ok.options c.in-Ok.ensures
+
+pub returns-in-Ok-clause-untouched : goal.returns-in-Ok-clause-untouched
+returns-in-Ok-clause-untouched g c = λ none. absurd (needs _ c.in-Ok.options c.in-Ok.ensures (options_are_served _ c.in-Ok.options c.in-Ok.ensures) none)
+
 pub returns-in-Err-OutOfMemory-clause-serves : goal.returns-in-Err-OutOfMemory-clause-serves
-returns-in-Err-OutOfMemory-clause-serves g c = serves_memory _ _ _ _ _ _ _ _
+returns-in-Err-OutOfMemory-clause-serves g c =
+    serves_memory (options_of (map string_bytes c.args.words.now)) (g.S.Source.left c.args.source.now) (g.S.Source.left c.args.source.now) (g.S.Source.faults c.args.source.now)
+    (g.S.Source.faults c.args.source.now) (g.K.Sink.written c.args.sink.now) (g.K.Sink.faults c.args.sink.now) (g.K.Sink.faults c.args.sink.now)
 
 pub returns-in-Ok-write_usage-clause-serves : goal.returns-in-Ok-write_usage-clause-serves
-returns-in-Ok-write_usage-clause-serves g c = serves_usage _ _ _ _ _ _ _ _ _ (rw c.in-Err-Usage.field-0-is at c.in-Err-Usage.ensures) c.in-Ok-write_usage.ensures.text
+returns-in-Ok-write_usage-clause-serves g c =
+    serves_usage (options_of (map string_bytes c.args.words.now)) (world (g.S.Source.left c.args.source.now) (g.S.Source.faults c.args.source.now) (g.K.Sink.written c.args.sink.now) (g.K.Sink.faults c.args.sink.now))
+    (world (g.S.Source.left c.args.source.now) (g.S.Source.faults c.args.source.now) (g.K.Sink.written c.write_usage.new.sink) (g.K.Sink.faults c.write_usage.new.sink)) status.Usage
+    (rw c.in-Err-Usage.field-0-is at c.in-Err-Usage.ensures) (refl, c.in-Ok-write_usage.ensures.text)
 
 pub returns-in-Err-clause-serves : goal.returns-in-Err-clause-serves
 returns-in-Err-clause-serves g c =
-    serves_usage_write _ _ _ _ _ _ _ _ _ (rw c.in-Err-Usage.field-0-is at c.in-Err-Usage.ensures) c.in-Err.ensures.cause.failed c.in-Err.ensures.text
-
-pub returns-in-Ok-write_refused-clause-serves : goal.returns-in-Ok-write_refused-clause-serves
-returns-in-Ok-write_refused-clause-serves g c =
-    let long = rw c.in-Ok-TooLong.field-0-is at c.in-Ok-TooLong.ensures.bytes in
-    serves_long _ _ _ long.0 _ _ _ _ _ _ (rw c.in-Ok.ensures refl) long.1 long.2 c.in-Ok-write_refused.ensures.text
-
-pub returns-in-Err-write_refused-clause-serves : goal.returns-in-Err-write_refused-clause-serves
-returns-in-Err-write_refused-clause-serves g c =
-    let long = rw c.in-Ok-TooLong.field-0-is at c.in-Ok-TooLong.ensures.bytes in
-    serves_long_write _ _ _ long.0 _ _ _ _ _ _ (rw c.in-Ok.ensures refl) long.1 long.2 c.in-Err-write_refused.ensures.cause.failed c.in-Err-write_refused.ensures.text
-
-pub returns-in-Err-Failed-clause-serves : goal.returns-in-Err-Failed-clause-serves
-returns-in-Err-Failed-clause-serves g c = serves_read _ _ _ _ _ _ _ _ (rw c.in-Ok.ensures refl) (rw c.in-Err-Failed.field-0-is at c.in-Err-Failed.ensures.failed)
-
-pub returns-in-Err-OutOfMemory-read_all-clause-serves :
-    goal.returns-in-Err-OutOfMemory-read_all-clause-serves
-returns-in-Err-OutOfMemory-read_all-clause-serves g c = serves_memory _ _ _ _ _ _ _ _
-
-pub answer_scene-requires : goal.answer_scene-requires
-answer_scene-requires g c = options_are_served _ c.in-Ok.options c.in-Ok.ensures
+    serves_usage (options_of (map string_bytes c.args.words.now)) (world (g.S.Source.left c.args.source.now) (g.S.Source.faults c.args.source.now) (g.K.Sink.written c.args.sink.now) (g.K.Sink.faults c.args.sink.now))
+    (world (g.S.Source.left c.args.source.now) (g.S.Source.faults c.args.source.now) (g.K.Sink.written c.write_usage.new.sink) (g.K.Sink.faults c.write_usage.new.sink)) status.Write
+    (rw c.in-Err-Usage.field-0-is at c.in-Err-Usage.ensures) (c.in-Err.ensures.cause.failed, c.in-Err.ensures.text)

@@ -1,6 +1,6 @@
 use Rattle.std.proofs.Common.{◌≡◌, ◌∙◌, map, string_bytes, is_some, sym, true}
 use Rattle.nbody_options.specs.Plain.{given_by}
-use Rattle.nbody_options.proofs.Reads.{not_served, nothing_chosen, refuses_for_memory, served, values_found}
+use Rattle.nbody_options.proofs.Choosing.{not_served, nothing_chosen, refuses_for_memory, served, values_found}
 use Rattle.nbody_options.proofs.read.read_options.Goals as goal
 
 pub unreachable-requires : goal.unreachable-requires
