@@ -112,7 +112,8 @@ body_laid {m} {most} {down} {key} {s} {j} one at cube own =
 
 -- ---- a cell
 
-module _ {m : Matter} {most down key : ℕ} {s cell : Spot} (at : IsCellAt s cell) (cube : IsTreeOfCube m most down key (tree_under s)) (own : WalkNode) (is : own ≡ cell_node m down key 1 (tree_under s)) where
+module _ {m : Matter} {most down key : ℕ} {s cell : Spot} (at : IsCellAt s cell) (cube : IsTreeOfCube m most down key (tree_under s)) (own : WalkNode)
+    (is : own ≡ cell_node m down key 1 (tree_under s)) where
   -- the node of a cell can be walked
   pub cell_laid : IsLaid own
   cell_laid =
@@ -170,7 +171,8 @@ pub record Fits (sum part : Pull) : Type 0 where
   pub other : IsSmall (2 ^ 120) (2 ^ 32) part
   pub few : sum.met + part.met < 2 ^ 32
 
-module _ {m : Matter} {most down key : ℕ} {s cell child : Spot} {k : ℕ} (at : IsCellAt s cell) (cube : IsTreeOfCube m most down key (tree_under s)) (is : IsChildOf cell k child) (small : k < 8) where
+module _ {m : Matter} {most down key : ℕ} {s cell child : Spot} {k : ℕ} (at : IsCellAt s cell) (cube : IsTreeOfCube m most down key (tree_under s))
+    (is : IsChildOf cell k child) (small : k < 8) where
   -- the pull of a child
   pub child_part : (law : PullLaw) (n j : ℕ) (part : Pull) → j ≡ k → part ≡ pull_from law m n (down - 1) (8 * key + j) (tree_under child)
       → part ≡ child_pull law m n down key (child_under cell) k
