@@ -1,5 +1,6 @@
 -- Sums of mass times acceleration, and how large they are.
-use Rattle.std.proofs.Common.{inl, inr, ◌≡◌, ◌<◌, ◌≤◌, ◌+◌, ◌-◌, ◌*◌, ◌^◌, ℕ, zero, suc, ℤ, pos, negsuc, neg_ℤ, ◌+ℤ◌, ◌*ℤ◌, List, [], ◌∷◌, ◌++◌, length, take, refl, sym, ◌∙◌, ap, subst, arith, add-one, sum_by, All}
+use Rattle.std.proofs.Common.{inl, inr, ◌≡◌, ◌<◌, ◌≤◌, ◌+◌, ◌-◌, ◌*◌, ◌^◌, ℕ, zero, suc, ℤ, pos, negsuc, neg_ℤ, ◌+ℤ◌, ◌*ℤ◌, List, [], ◌∷◌, ◌++◌, length, take}
+use Rattle.std.proofs.Common.{refl, sym, ◌∙◌, ap, subst, arith, add-one, sum_by, All}
 use mir.Syntax.{w128}
 use mir.Val.{of_z, to_z}
 use Rattle.std.proofs.lemmas.Int.{ints}
@@ -85,18 +86,21 @@ upto-within bodies part bound (suc k) h each =
     let room : mass_upto bodies k * bound + (body_at bodies k).mass * bound ≤ mass_upto bodies (suc k) * bound = omega (arith, ap (λ y. y * bound) masses) in
     let P : ℤ → Type 0 = λ z. IsWithin (mass_upto bodies (suc k) * bound) z in
     let sum : sum_over f (numbers (suc k)) ≡ sum_over f (numbers k) +ℤ f k = ap (λ y. sum_over f (numbers y)) (sym (add-one k)) ∙ upto-more f k in
-    subst P (sym sum) (within-more (mass_upto bodies k * bound + (body_at bodies k).mass * bound) (mass_upto bodies (suc k) * bound) (sum_over f (numbers k) +ℤ f k) room both)
+    subst P (sym sum) (within-more (mass_upto bodies k * bound + (body_at bodies k).mass * bound) (mass_upto bodies (suc k) * bound)
+    (sum_over f (numbers k) +ℤ f k) room both)
 
 -- a mass below 2 ^ 40 times an acceleration below 2 ^ 80 is below 2 ^ 120
 push_room : (masses : ℕ) → masses < 2 ^ 40 → masses * (2 ^ 80 - 1) ≤ 2 ^ 120 - 1
 push_room masses h = omega arith
 
 -- so is each sum over the first bodies
-pub upto-small : (bodies : List Body) (part : ℕ → ℤ) (k : ℕ) → total_mass bodies < 2 ^ 40 → k ≤ length bodies → ((n : ℕ) → n < length bodies → IsWithin (2 ^ 80 - 1) (part n))
+pub upto-small : (bodies : List Body) (part : ℕ → ℤ) (k : ℕ) → total_mass bodies < 2 ^ 40 → k ≤ length bodies
+    → ((n : ℕ) → n < length bodies → IsWithin (2 ^ 80 - 1) (part n))
     → IsWithin (2 ^ 120 - 1) (sum_over (λ n. pos ((matter_of bodies).mass n) *ℤ part n) (numbers k))
 upto-small bodies part k mass h each =
     let masses : mass_upto bodies k < 2 ^ 40 = omega (arith, mass, sum_by-take-le (λ (b : Body). b.mass) bodies k) in
-    within-more (mass_upto bodies k * (2 ^ 80 - 1)) (2 ^ 120 - 1) (sum_over (λ n. pos ((matter_of bodies).mass n) *ℤ part n) (numbers k)) (push_room (mass_upto bodies k) masses)
+    within-more (mass_upto bodies k * (2 ^ 80 - 1)) (2 ^ 120 - 1) (sum_over (λ n. pos ((matter_of bodies).mass n) *ℤ part n) (numbers k))
+    (push_room (mass_upto bodies k) masses)
     (upto-within bodies part (2 ^ 80 - 1) k h each)
 
 -- the terms of the pulls on no body, and on one body more
@@ -116,24 +120,29 @@ abbrev pub IsSmallPart : (Pull → ℤ) → List Body → List Pull → Type 0
 IsSmallPart part bodies pulls = (n : ℕ) → n < length bodies → IsWithin (2 ^ 80 - 1) (part (pull_at pulls n))
 
 -- each part is, where there is a small pull for each body
-pub small_x : (bodies : List Body) (pulls : List Pull) → length pulls ≡ length bodies → All (IsPullAmong (length bodies)) pulls → IsSmallPart (λ p. p.ax) bodies pulls
+pub small_x : (bodies : List Body) (pulls : List Pull) → length pulls ≡ length bodies → All (IsPullAmong (length bodies)) pulls
+    → IsSmallPart (λ p. p.ax) bodies pulls
 small_x bodies pulls e small n l = (small n no_pull (omega arith)).x
 
-pub small_y : (bodies : List Body) (pulls : List Pull) → length pulls ≡ length bodies → All (IsPullAmong (length bodies)) pulls → IsSmallPart (λ p. p.ay) bodies pulls
+pub small_y : (bodies : List Body) (pulls : List Pull) → length pulls ≡ length bodies → All (IsPullAmong (length bodies)) pulls
+    → IsSmallPart (λ p. p.ay) bodies pulls
 small_y bodies pulls e small n l = (small n no_pull (omega arith)).y
 
-pub small_z : (bodies : List Body) (pulls : List Pull) → length pulls ≡ length bodies → All (IsPullAmong (length bodies)) pulls → IsSmallPart (λ p. p.az) bodies pulls
+pub small_z : (bodies : List Body) (pulls : List Pull) → length pulls ≡ length bodies → All (IsPullAmong (length bodies)) pulls
+    → IsSmallPart (λ p. p.az) bodies pulls
 small_z bodies pulls e small n l = (small n no_pull (omega arith)).z
 
 -- so the sum over the first bodies is below 2 ^ 120
-pub push_small : (bodies : List Body) (pulls : List Pull) (part : Pull → ℤ) (k : ℕ) (sum : ℤ) → total_mass bodies < 2 ^ 40 → k ≤ length bodies → IsSmallPart part bodies pulls
+pub push_small : (bodies : List Body) (pulls : List Pull) (part : Pull → ℤ) (k : ℕ) (sum : ℤ) → total_mass bodies < 2 ^ 40 → k ≤ length bodies
+    → IsSmallPart part bodies pulls
     → sum ≡ push_by part bodies pulls k → IsWithin (2 ^ 120 - 1) sum
 push_small bodies pulls part k sum mass h each e =
     let P : ℤ → Type 0 = λ z. IsWithin (2 ^ 120 - 1) z in
     subst P (sym e) (upto-small bodies (λ n. part (pull_at pulls n)) k mass h each)
 
 -- and what is added to is read as it is
-pub sum_room : (bodies : List Body) (pulls : List Pull) (part : Pull → ℤ) (k : ℕ) (sum : ℤ) → total_mass bodies < 2 ^ 40 → k ≤ length bodies → IsSmallPart part bodies pulls
+pub sum_room : (bodies : List Body) (pulls : List Pull) (part : Pull → ℤ) (k : ℕ) (sum : ℤ) → total_mass bodies < 2 ^ 40 → k ≤ length bodies
+    → IsSmallPart part bodies pulls
     → sum ≡ push_by part bodies pulls k → IsWithin (2 ^ 120 - 1) (to_z w128 (of_z w128 sum))
 sum_room bodies pulls part k sum mass h each e =
     let small : IsWithin (2 ^ 120 - 1) sum = push_small bodies pulls part k sum mass h each e in
@@ -147,7 +156,8 @@ part_room z h =
     subst P (sym (read_again z (within-more (2 ^ 80 - 1) (2 ^ 120 - 1) z (omega arith) h))) h
 
 -- one body more
-pub sum_more : (bodies : List Body) (pulls : List Pull) (part : Pull → ℤ) (k mass : ℕ) (sum result : ℤ) → total_mass bodies < 2 ^ 40 → k < length bodies → IsSmallPart part bodies pulls
+pub sum_more : (bodies : List Body) (pulls : List Pull) (part : Pull → ℤ) (k mass : ℕ) (sum result : ℤ) → total_mass bodies < 2 ^ 40 → k < length bodies
+    → IsSmallPart part bodies pulls
     → sum ≡ push_by part bodies pulls k → mass ≡ (body_at bodies k).mass
     → result ≡ to_z w128 (of_z w128 sum) +ℤ (pos mass *ℤ to_z w128 (of_z w128 (part (pull_at pulls k))))
     → to_z w128 (of_z w128 result) ≡ push_by part bodies pulls (k + 1)

@@ -1,5 +1,6 @@
 -- The first shares, body by body.
-use Rattle.std.proofs.Common.{◌≡◌, ◌≢◌, ◌∙◌, ◌<◌, ◌+◌, ◌*◌, ◌/◌, ℕ, Bool, true, false, List, [], ◌∷◌, ◌++◌, get_or, length, map, set, replicate, refl, sym, ap, subst, arith, inl, inr, add-one, length-set, eqb, cond, filter}
+use Rattle.std.proofs.Common.{◌≡◌, ◌≢◌, ◌∙◌, ◌<◌, ◌+◌, ◌*◌, ◌/◌, ℕ, Bool, true, false, List, [], ◌∷◌, ◌++◌, get_or, length, map, set, replicate, refl, sym}
+use Rattle.std.proofs.Common.{ap, subst, arith, inl, inr, add-one, length-set, eqb, cond, filter}
 use Rattle.std.proofs.lemmas.Bool.Decides.{eqb_tells}
 use Rattle.std.proofs.lemmas.List.{append-nil, ext_get_or, get_or-map, get_or-set_same, get_or-set_other, length-map, map-set}
 use Rattle.std.proofs.lemmas.List.Elements.{filter-append}
@@ -12,7 +13,8 @@ use Rattle.frame_core.proofs.Rows.{length-values, numbers-none, numbers-suc, val
 -- the shares of no bodies
 pub shares-none : (workers count : ℕ) → replicate workers [] ≡ map (share_below 0 workers count) (numbers workers)
 shares-none workers count =
-    splat_is_map (numbers workers) workers [] (length_numbers workers) ∙ ap (λ ns. map (λ w. filter (λ n. eqb (n * workers / count) w) ns) (numbers workers)) (sym numbers-none)
+    splat_is_map (numbers workers) workers [] (length_numbers workers)
+    ∙ ap (λ ns. map (λ w. filter (λ n. eqb (n * workers / count) w) ns) (numbers workers)) (sym numbers-none)
 
 -- a list, which one number joins where a test holds
 abbrev grown : Bool → List ℕ → ℕ → List ℕ
@@ -29,7 +31,8 @@ share-more n workers count w =
     ∙ grows (eqb (n * workers / count) w) (share_below n workers count w) n
 
 -- the shares with one body more, which joins its own share
-pub shares_more : {X : Type 0} (its : X → List ℕ) (xs : List X) (y d : X) (n workers count own : ℕ) → own ≡ n * workers / count → own < workers → its y ≡ its (get_or xs own d) ++ (n ∷ [])
+pub shares_more : {X : Type 0} (its : X → List ℕ) (xs : List X) (y d : X) (n workers count own : ℕ) → own ≡ n * workers / count → own < workers
+    → its y ≡ its (get_or xs own d) ++ (n ∷ [])
     → map its xs ≡ map (share_below n workers count) (numbers workers) → map its (set xs own y) ≡ map (share_below (n + 1) workers count) (numbers workers)
 shares_more its xs y d n workers count own is less joins before =
     let f : ℕ → List ℕ = share_below n workers count in
@@ -48,7 +51,9 @@ shares_more its xs y d n workers count own is less joins before =
     let within : k < workers = omega arith in
     ap (λ z. get_or z k []) (map-set its xs own y)
     ∙ elim (eqb_tells own k) [
-      | inl t ↦ (let P : ℕ → Type 0 = λ j. get_or (set (map its xs) own (its y)) j [] ≡ f j ++ (n ∷ []) in subst P t.1 (same refl) ∙ sym (ap (λ b. grown b (f k) n) t.0))
-      | inr u ↦ (let apart : k ≢ own = λ e. u.1 (sym e) in get_or-set_other (map its xs) own k (its y) [] apart ∙ old k within ∙ sym (ap (λ b. grown b (f k) n) u.0))
+      | inl t ↦ (let P : ℕ → Type 0 = λ j. get_or (set (map its xs) own (its y)) j [] ≡ f j ++ (n ∷ []) in subst P t.1 (same refl)
+      ∙ sym (ap (λ b. grown b (f k) n) t.0))
+      | inr u ↦ (let apart : k ≢ own = λ e. u.1 (sym e) in get_or-set_other (map its xs) own k (its y) [] apart ∙ old k within
+      ∙ sym (ap (λ b. grown b (f k) n) u.0))
     ]
     ∙ sym (new k within))

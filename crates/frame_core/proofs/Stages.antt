@@ -12,7 +12,8 @@ use Rattle.frame_core.specs.declared.stage.Stage.{Stage}
 use Rattle.frame_core.specs.declared.stage.Stage.TheVariants as held
 
 -- where an engine holds a frame, its parts are those of its state
-pub frame_of_stage : (i : Inside) (e : EngineState) (parts : FrameParts) → state_of i ≡ e → IsEngine (state_of i) i.stage → i.stage ≡ held.Frame parts → AreParts e parts
+pub frame_of_stage : (i : Inside) (e : EngineState) (parts : FrameParts) → state_of i ≡ e → IsEngine (state_of i) i.stage → i.stage ≡ held.Frame parts
+    → AreParts e parts
 frame_of_stage i e parts seen rule frame =
     let P : EngineState → Type 0 = λ s. AreParts s parts in
     let Q : Stage → Type 0 = λ s. KeepsStage (state_of i) s in
@@ -26,7 +27,8 @@ last_of e (held.Frame parts) a h = h.0
 last_of e held.Spent a h = cc
 
 -- where the points have a tree, the octree that is kept last is theirs
-pub octree_of_stage : (i : Inside) (e : EngineState) (kept : List Site) (o : Stored) → state_of i ≡ e → IsEngine (state_of i) i.stage → e.stage ≡ WithTree → i.last ≡ Some kept
+pub octree_of_stage : (i : Inside) (e : EngineState) (kept : List Site) (o : Stored) → state_of i ≡ e → IsEngine (state_of i) i.stage → e.stage ≡ WithTree
+    → i.last ≡ Some kept
     → IsOctreeOf kept o → IsOctreeOf (sites_of i.bodies) o
 octree_of_stage i e kept o seen rule tree last h =
     let stage : stage_of i.stage ≡ WithTree = ap (λ s. s.stage) seen ∙ tree in

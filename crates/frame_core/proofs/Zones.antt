@@ -43,26 +43,31 @@ placed bodies rule =
     let points : ArePoints (sites_of bodies) = record { few = omega (arith, sites_count bodies, rule.few); apart = rule.apart; in_cube = rule.in_cube } in
     let P : ℕ → Type 0 = λ y. y < length (sites_of bodies) in
     placed_of_points (sites_of bodies) (numbers (length bodies)) points
-    (λ k d l. subst P (sym (number_at_place (length bodies) k d (omega (arith, length_numbers (length bodies), l)))) (omega (arith, length_numbers (length bodies), l, sites_count bodies)))
+    (λ k d l. subst P (sym (number_at_place (length bodies) k d (omega (arith, length_numbers (length bodies), l))))
+    (omega (arith, length_numbers (length bodies), l, sites_count bodies)))
 
 -- each body is in the order of the tree
 pub in_tree : (bodies : List Body) (n : ℕ) → AreBodies bodies → n < length bodies → IsIn (order (tree_of_bodies bodies)) n
 in_tree bodies n rule l =
-    (order_members (site_at (sites_of bodies)) (numbers (length bodies)) n (numbers_once (length bodies)) (placed bodies rule)).1 ((in_numbers (length bodies) n).1 l)
+    (order_members (site_at (sites_of bodies)) (numbers (length bodies)) n (numbers_once (length bodies)) (placed bodies rule)).1
+    ((in_numbers (length bodies) n).1 l)
 
 -- and nothing else
 pub from_tree : (bodies : List Body) (n : ℕ) → AreBodies bodies → IsIn (order (tree_of_bodies bodies)) n → n < length bodies
 from_tree bodies n rule i =
-    (in_numbers (length bodies) n).0 ((order_members (site_at (sites_of bodies)) (numbers (length bodies)) n (numbers_once (length bodies)) (placed bodies rule)).0 i)
+    (in_numbers (length bodies) n).0
+    ((order_members (site_at (sites_of bodies)) (numbers (length bodies)) n (numbers_once (length bodies)) (placed bodies rule)).0 i)
 
 -- ---- zones in a list of lists
 
 -- there is a zone for each worker
-pub zones_count : {X : Type 0} (its : X → List ℕ) (zs : List X) (cost : ℕ → ℕ) (workers : ℕ) (tree : Tree) → map its zs ≡ zones cost workers tree → length zs ≡ workers
+pub zones_count : {X : Type 0} (its : X → List ℕ) (zs : List X) (cost : ℕ → ℕ) (workers : ℕ) (tree : Tree) → map its zs ≡ zones cost workers tree
+    → length zs ≡ workers
 zones_count its zs cost workers tree e = sym (length-map zs its) ∙ ap length e ∙ length-values (λ w. zone cost workers w tree) workers
 
 -- which stands at its number
-pub zone_is : {X : Type 0} (its : X → List ℕ) (zs : List X) (cost : ℕ → ℕ) (workers : ℕ) (tree : Tree) (w : ℕ) (d : X) → map its zs ≡ zones cost workers tree → w < length zs
+pub zone_is : {X : Type 0} (its : X → List ℕ) (zs : List X) (cost : ℕ → ℕ) (workers : ℕ) (tree : Tree) (w : ℕ) (d : X) → map its zs ≡ zones cost workers tree
+    → w < length zs
     → its (get_or zs w d) ≡ zone cost workers w tree
 zone_is its zs cost workers tree w d e l =
     sym (get_or-map its zs w d [] l) ∙ ap (λ y. get_or y w []) e
@@ -74,7 +79,8 @@ pub zones_inside : {X : Type 0} (its : X → List ℕ) (zs : List X) (cost : ℕ
 zones_inside its zs cost workers bodies rule e w d l k c m =
     let tree : Tree = tree_of_bodies bodies in
     let n : ℕ = get_or (its (get_or zs w d)) k c in
-    let there : IsIn (zone cost workers w tree) n = subst (λ (y : List ℕ). IsIn y n) (zone_is its zs cost workers tree w d e l) (in_at (its (get_or zs w d)) k c m) in
+    let there : IsIn (zone cost workers w tree) n = subst (λ (y : List ℕ). IsIn y n) (zone_is its zs cost workers tree w d e l)
+    (in_at (its (get_or zs w d)) k c m) in
     from_tree bodies n rule (zone_from-member cost workers (cost_of cost (order tree)) 0 (order tree) w n there)
 
 -- what stands at a place of a list
@@ -118,6 +124,7 @@ greatest_is its zs cost workers tree e =
     ap greatest (map_twice its (cost_of cost) zs ∙ ap (map (cost_of cost)) e ∙ sym (map_twice (λ w. zone cost workers w tree) (cost_of cost) (numbers workers)))
 
 -- zones of the octree are those of the bodies' tree, in whatever list they stand
-pub zones_of : {X : Type 0} (its : X → List ℕ) (zs cut : List X) (cost : ℕ → ℕ) (workers : ℕ) (bodies : List Body) (o : Stored) → IsOctreeOf (sites_of bodies) o → zs ≡ cut
+pub zones_of : {X : Type 0} (its : X → List ℕ) (zs cut : List X) (cost : ℕ → ℕ) (workers : ℕ) (bodies : List Body) (o : Stored)
+    → IsOctreeOf (sites_of bodies) o → zs ≡ cut
     → map its cut ≡ zones cost workers (tree_of o) → map its zs ≡ zones cost workers (tree_of_bodies bodies)
 zones_of its zs cut cost workers bodies o h same e = ap (map its) same ∙ e ∙ ap (zones cost workers) (tree_is bodies o h)

@@ -20,7 +20,8 @@ pub data EngineStage : Type 0 where
   WithFrame : EngineStage
   Spent : EngineStage
 
--- the plan, the number of the frame, the bodies, where these are exactly and how fast they move, the cost of each, the shares in which workers build, the points of the last tree that was made, and the stage
+-- the plan, the number of the frame, the bodies, where these are exactly and how fast they move, the cost of each, the shares in which workers build, the
+-- points of the last tree that was made, and the stage
 pub record EngineState : Type 0 where
   pub plan : TreePlan
   pub step : ℕ

@@ -1,5 +1,6 @@
 -- Why each end of a run meets its promise.
-use Rattle.std.proofs.Common.{◌≡◌, ◌∙◌, ◌<◌, ℕ, List, [], ◌++◌, Bool, true, false, ◌&&◌, IsFalse, Option, Some, None, Result, Ok, Err, length, cond, refl, sym, ap, subst, arith, inl, inr}
+use Rattle.std.proofs.Common.{◌≡◌, ◌∙◌, ◌<◌, ℕ, List, [], ◌++◌, Bool, true, false, ◌&&◌, IsFalse, Option, Some, None, Result, Ok, Err, length, cond, refl}
+use Rattle.std.proofs.Common.{sym, ap, subst, arith, inl, inr}
 use Rattle.std.proofs.lemmas.List.{append-nil, length-append}
 use Rattle.std.proofs.lemmas.Bool.Decides.{nat_tests}
 use Rattle.std.specs.Io.KnownBytes.{Consumes, IsAtEnd}
@@ -13,7 +14,8 @@ use Rattle.nbody_options.specs.Choices.{Choices}
 use Rattle.nbody_options.specs.Options.{is_served, serves_command}
 use Rattle.nbody_options.specs.declared.options.Command.{Command}
 use Rattle.nbody_options.specs.declared.options.Command.TheVariants as command
-use Rattle.nbody_cli.specs.Serving.{AreLeft, Completes, Ends, Serves, Wanted, World, needs_source, reads_source, sink_world, status_of_fault, wanted, wanted_of_scene, world}
+use Rattle.nbody_cli.specs.Serving.{AreLeft, Completes, Ends, Serves, Wanted, World, needs_source, reads_source, sink_world, status_of_fault, wanted}
+use Rattle.nbody_cli.specs.Serving.{wanted_of_scene, world}
 use Rattle.nbody_cli.specs.Text.{command_text}
 use Rattle.nbody_cli.specs.declared.status.Status.{Status}
 use Rattle.nbody_cli.specs.declared.status.Status.TheVariants as status
@@ -90,7 +92,8 @@ longer (Some xs) (Some ys) given limit gave long = omega (arith, ap length gave,
 -- ---- the ends of a run
 
 -- an end that the sink tells is that of a run whose source was read to its end
-ends_over : (w : Wanted) (l0 l1 : Option (List ℕ)) (rb rn : ℕ) (wb wn : Option (List ℕ)) (kb kn : ℕ) (s : Status) → IsAtEnd l1 → Ends w (sink_world wb kb) (sink_world wn kn) s
+ends_over : (w : Wanted) (l0 l1 : Option (List ℕ)) (rb rn : ℕ) (wb wn : Option (List ℕ)) (kb kn : ℕ) (s : Status) → IsAtEnd l1
+    → Ends w (sink_world wb kb) (sink_world wn kn) s
     → Ends w (world l0 rb wb kb) (world l1 rn wn kn) s
 ends_over w l0 l1 rb rn wb wn kb kn status.Done end h = (h.0, h.1, λ _. end)
 ends_over w l0 l1 rb rn wb wn kb kn status.Usage end h = h
@@ -109,15 +112,19 @@ completes w before after status.Scene h quiet still = inl h.0
 completes w before after status.Memory h quiet still = inr refl
 
 -- a run by its bytes and its end
-serves : (options : Option Choices) (bytes : List ℕ) (before after : World) (s : Status) → AreLeft before.left bytes → Ends (wanted options bytes) before after s → Serves options before after s
+serves : (options : Option Choices) (bytes : List ℕ) (before after : World) (s : Status) → AreLeft before.left bytes
+    → Ends (wanted options bytes) before after s → Serves options before after s
 serves options bytes before after s told h = record { bytes = bytes; told = told; ends = h; complete = completes (wanted options bytes) before after s h }
 
 -- memory ran out with nothing written
-pub serves_memory : (options : Option Choices) (l0 l1 : Option (List ℕ)) (rb rn : ℕ) (wb : Option (List ℕ)) (kb kn : ℕ) → Serves options (world l0 rb wb kb) (world l1 rn wb kn) status.Memory
-serves_memory options l0 l1 rb rn wb kb kn = serves options (left_or l0 []) (world l0 rb wb kb) (world l1 rn wb kn) status.Memory (are_left l0 []) (no_prefix wb _)
+pub serves_memory : (options : Option Choices) (l0 l1 : Option (List ℕ)) (rb rn : ℕ) (wb : Option (List ℕ)) (kb kn : ℕ)
+    → Serves options (world l0 rb wb kb) (world l1 rn wb kn) status.Memory
+serves_memory options l0 l1 rb rn wb kb kn =
+    serves options (left_or l0 []) (world l0 rb wb kb) (world l1 rn wb kn) status.Memory (are_left l0 []) (no_prefix wb _)
 
 -- there are no options
-pub serves_usage : (options : Option Choices) (before after : World) (s : Status) → options ≡ None → Ends (wanted None []) before after s → Serves options before after s
+pub serves_usage : (options : Option Choices) (before after : World) (s : Status) → options ≡ None → Ends (wanted None []) before after s
+    → Serves options before after s
 serves_usage options before after s none h =
     let P : Option Choices → Type 0 = λ o. Serves o before after s in
     subst P (sym none) (serves None (left_or before.left []) before after s (are_left before.left []) h)
@@ -131,16 +138,20 @@ serves_read o l0 l1 rb rn wb kb kn served rise =
     (ap (λ (w : Wanted). w.reads) (wanted_is o bytes served) ∙ reads_scene o (scene_of bytes), rise, took_none wb)
 
 -- there were too many bytes
-pub serves_long : (o : Choices) (l0 l1 : Option (List ℕ)) (given : List ℕ) (rb rn : ℕ) (wb wn : Option (List ℕ)) (kb kn : ℕ) (s : Status) → is_served o ≡ true → Consumes l0 l1 given
-    → 16777216 < length given → Ends (wanted_of_scene o (Err fault.TooLong)) (world l0 rb wb kb) (world l1 rn wn kn) s → Serves (Some o) (world l0 rb wb kb) (world l1 rn wn kn) s
+pub serves_long : (o : Choices) (l0 l1 : Option (List ℕ)) (given : List ℕ) (rb rn : ℕ) (wb wn : Option (List ℕ)) (kb kn : ℕ) (s : Status) → is_served o ≡ true
+    → Consumes l0 l1 given
+    → 16777216 < length given → Ends (wanted_of_scene o (Err fault.TooLong)) (world l0 rb wb kb) (world l1 rn wn kn) s
+    → Serves (Some o) (world l0 rb wb kb) (world l1 rn wn kn) s
 serves_long o l0 l1 given rb rn wb wn kb kn s served gave long h =
     let bytes = left_or l0 given in
-    let is : wanted (Some o) bytes ≡ wanted_of_scene o (Err fault.TooLong) = wanted_is o bytes served ∙ ap (wanted_of_scene o) (long_scene bytes (longer l0 l1 given 16777216 gave long)) in
+    let is : wanted (Some o) bytes ≡ wanted_of_scene o (Err fault.TooLong) = wanted_is o bytes served
+    ∙ ap (wanted_of_scene o) (long_scene bytes (longer l0 l1 given 16777216 gave long)) in
     let P : Wanted → Type 0 = λ w. Ends w (world l0 rb wb kb) (world l1 rn wn kn) s in
     serves (Some o) bytes (world l0 rb wb kb) (world l1 rn wn kn) s (are_left l0 given) (subst P (sym is) h)
 
 -- all bytes were read
-pub serves_scene : (o : Choices) (l0 l1 : Option (List ℕ)) (bytes : List ℕ) (rb rn : ℕ) (wb wn : Option (List ℕ)) (kb kn : ℕ) (s : Status) → is_served o ≡ true → Consumes l0 l1 bytes
+pub serves_scene : (o : Choices) (l0 l1 : Option (List ℕ)) (bytes : List ℕ) (rb rn : ℕ) (wb wn : Option (List ℕ)) (kb kn : ℕ) (s : Status)
+    → is_served o ≡ true → Consumes l0 l1 bytes
     → IsAtEnd l1 → Ends (wanted_of_scene o (scene_of bytes)) (sink_world wb kb) (sink_world wn kn) s → Serves (Some o) (world l0 rb wb kb) (world l1 rn wn kn) s
 serves_scene o l0 l1 bytes rb rn wb wn kb kn s served gave end h =
     let P : Wanted → Type 0 = λ w. Ends w (world l0 rb wb kb) (world l1 rn wn kn) s in

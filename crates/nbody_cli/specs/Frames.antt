@@ -30,7 +30,8 @@ zone_line w bodies = Words (codes "zone") (Number w ∷ Numbers bodies ∷ [])
 abbrev pub body_line : ℕ → Site → Pull → TextLine
 body_line n at p =
     Words (codes "acc")
-    (Number n ∷ Word (codes "at") ∷ Number at.x ∷ Number at.y ∷ Number at.z ∷ Word (codes "pull") ∷ Signed p.ax ∷ Signed p.ay ∷ Signed p.az ∷ Word (codes "met") ∷ Number p.met ∷ [])
+    (Number n ∷ Word (codes "at") ∷ Number at.x ∷ Number at.y ∷ Number at.z ∷ Word (codes "pull") ∷ Signed p.ax ∷ Signed p.ay ∷ Signed p.az ∷ Word
+    (codes "met") ∷ Number p.met ∷ [])
 
 -- the lines of a worker and of a body in an engine's frame
 abbrev pub zone_line_of : EngineState → ℕ → TextLine

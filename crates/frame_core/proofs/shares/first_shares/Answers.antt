@@ -39,7 +39,8 @@ pub loop-n-preserved : goal.loop-n-preserved
 loop-n-preserved c =
     let own = own_is c.loop-n.n _ c.args.workers _ c.args.count _ c.from.ensures c.from-in-loop-n.ensures c.from-in-loop-n-2.ensures in
     let less = own_less c.loop-n.n c.args.workers c.args.count c.requires.0 c.loop-n-test.true in
-    shares_more (λ z. z.items) c.loop-n.shares.items c.push.new.self c.index_mut.result.now c.loop-n.n c.args.workers c.args.count _ own (omega (arith, own, less)) (c.in_ok-push.ensures.items ∙ ap (λ z. z.items ++ (c.loop-n.n ∷ [])) c.index_mut.ensures.value) c.loop-n.invariant
+    shares_more (λ z. z.items) c.loop-n.shares.items c.push.new.self c.index_mut.result.now c.loop-n.n c.args.workers c.args.count _ own
+    (omega (arith, own, less)) (c.in_ok-push.ensures.items ∙ ap (λ z. z.items ++ (c.loop-n.n ∷ [])) c.index_mut.ensures.value) c.loop-n.invariant
 
 pub returns : goal.returns
 returns c =

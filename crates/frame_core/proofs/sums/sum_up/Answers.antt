@@ -18,13 +18,15 @@ pub with_push-requires-clause-room : goal.with_push-requires-clause-room
 with_push-requires-clause-room c =
     let bodies = c.args.bodies.now in
     let pulls = c.args.pulls.now in
-    sum_room bodies pulls (λ p. p.ax) c.loop-n.n c.loop-n.sums.push_x c.len-n-end.ensures.rule.total (omega arith) (small_x bodies pulls c.requires.one_each c.requires.small) c.loop-n.invariant.x
+    sum_room bodies pulls (λ p. p.ax) c.loop-n.n c.loop-n.sums.push_x c.len-n-end.ensures.rule.total (omega arith)
+    (small_x bodies pulls c.requires.one_each c.requires.small) c.loop-n.invariant.x
 
 pub with_push-requires-in-loop-n-clause-room : goal.with_push-requires-in-loop-n-clause-room
 with_push-requires-in-loop-n-clause-room c =
     let bodies = c.args.bodies.now in
     let pulls = c.args.pulls.now in
-    sum_room bodies pulls (λ p. p.ay) c.loop-n.n c.loop-n.sums.push_y c.len-n-end.ensures.rule.total (omega arith) (small_y bodies pulls c.requires.one_each c.requires.small) c.loop-n.invariant.y
+    sum_room bodies pulls (λ p. p.ay) c.loop-n.n c.loop-n.sums.push_y c.len-n-end.ensures.rule.total (omega arith)
+    (small_y bodies pulls c.requires.one_each c.requires.small) c.loop-n.invariant.y
 
 pub with_push-requires-in-loop-n-clause-small : goal.with_push-requires-in-loop-n-clause-small
 with_push-requires-in-loop-n-clause-small c =
@@ -35,7 +37,8 @@ pub with_push-requires-in-loop-n-2-clause-room : goal.with_push-requires-in-loop
 with_push-requires-in-loop-n-2-clause-room c =
     let bodies = c.args.bodies.now in
     let pulls = c.args.pulls.now in
-    sum_room bodies pulls (λ p. p.az) c.loop-n.n c.loop-n.sums.push_z c.len-n-end.ensures.rule.total (omega arith) (small_z bodies pulls c.requires.one_each c.requires.small) c.loop-n.invariant.z
+    sum_room bodies pulls (λ p. p.az) c.loop-n.n c.loop-n.sums.push_z c.len-n-end.ensures.rule.total (omega arith)
+    (small_z bodies pulls c.requires.one_each c.requires.small) c.loop-n.invariant.z
 
 pub with_push-requires-in-loop-n-2-clause-small : goal.with_push-requires-in-loop-n-2-clause-small
 with_push-requires-in-loop-n-2-clause-small c =
@@ -56,13 +59,16 @@ loop-n-preserved c =
       met = omega (arith, c.loop-n.invariant.met, c.from.ensures, met-more pulls n);
       met_small = omega (arith, c.loop-n.invariant.met_small, c.from.ensures, met, most);
       x =
-          sum_more bodies pulls (λ p. p.ax) n c.get-mass.result.mass c.loop-n.sums.push_x c.with_push.result few less (small_x bodies pulls c.requires.one_each c.requires.small)
+          sum_more bodies pulls (λ p. p.ax) n c.get-mass.result.mass c.loop-n.sums.push_x c.with_push.result few less
+          (small_x bodies pulls c.requires.one_each c.requires.small)
           c.loop-n.invariant.x mass c.with_push.ensures;
       y =
-          sum_more bodies pulls (λ p. p.ay) n c.get-mass.result.mass c.loop-n.sums.push_y c.with_push-in-loop-n.result few less (small_y bodies pulls c.requires.one_each c.requires.small)
+          sum_more bodies pulls (λ p. p.ay) n c.get-mass.result.mass c.loop-n.sums.push_y c.with_push-in-loop-n.result few less
+          (small_y bodies pulls c.requires.one_each c.requires.small)
           c.loop-n.invariant.y mass c.with_push-in-loop-n.ensures;
       z =
-          sum_more bodies pulls (λ p. p.az) n c.get-mass.result.mass c.loop-n.sums.push_z c.with_push-in-loop-n-2.result few less (small_z bodies pulls c.requires.one_each c.requires.small)
+          sum_more bodies pulls (λ p. p.az) n c.get-mass.result.mass c.loop-n.sums.push_z c.with_push-in-loop-n-2.result few less
+          (small_z bodies pulls c.requires.one_each c.requires.small)
           c.loop-n.invariant.z mass c.with_push-in-loop-n-2.ensures;
     }
 
@@ -70,16 +76,19 @@ pub returns-clause-small_x : goal.returns-clause-small_x
 returns-clause-small_x c =
     let bodies = c.args.bodies.now in
     let pulls = c.args.pulls.now in
-    push_small bodies pulls (λ p. p.ax) c.loop-n.n c.loop-n.sums.push_x c.len-n-end.ensures.rule.total (omega arith) (small_x bodies pulls c.requires.one_each c.requires.small) c.loop-n.invariant.x
+    push_small bodies pulls (λ p. p.ax) c.loop-n.n c.loop-n.sums.push_x c.len-n-end.ensures.rule.total (omega arith)
+    (small_x bodies pulls c.requires.one_each c.requires.small) c.loop-n.invariant.x
 
 pub returns-clause-small_y : goal.returns-clause-small_y
 returns-clause-small_y c =
     let bodies = c.args.bodies.now in
     let pulls = c.args.pulls.now in
-    push_small bodies pulls (λ p. p.ay) c.loop-n.n c.loop-n.sums.push_y c.len-n-end.ensures.rule.total (omega arith) (small_y bodies pulls c.requires.one_each c.requires.small) c.loop-n.invariant.y
+    push_small bodies pulls (λ p. p.ay) c.loop-n.n c.loop-n.sums.push_y c.len-n-end.ensures.rule.total (omega arith)
+    (small_y bodies pulls c.requires.one_each c.requires.small) c.loop-n.invariant.y
 
 pub returns-clause-small_z : goal.returns-clause-small_z
 returns-clause-small_z c =
     let bodies = c.args.bodies.now in
     let pulls = c.args.pulls.now in
-    push_small bodies pulls (λ p. p.az) c.loop-n.n c.loop-n.sums.push_z c.len-n-end.ensures.rule.total (omega arith) (small_z bodies pulls c.requires.one_each c.requires.small) c.loop-n.invariant.z
+    push_small bodies pulls (λ p. p.az) c.loop-n.n c.loop-n.sums.push_z c.len-n-end.ensures.rule.total (omega arith)
+    (small_z bodies pulls c.requires.one_each c.requires.small) c.loop-n.invariant.z

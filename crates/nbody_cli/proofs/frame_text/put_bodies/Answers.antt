@@ -21,18 +21,22 @@ loop-n-init g c = (rw (numbers-none (λ k. line_text (body_line_of c.args.engine
 
 pub loop-n-preserved : goal.loop-n-preserved
 loop-n-preserved g c =
-    let P : Site → Pull → Type 0 = λ s p. PutsAll (g.K.Sink.written c.loop-n.sink) (g.K.Sink.written c.put_body.new.sink) c.loop-n.buffer c.put_body.new.buffer (line_text (body_line c.loop-n.n s p)) in (
-      number_more (λ k. line_text (body_line_of c.args.engine.now k)) c.loop-n.n _ _ _ _ _ _ c.loop-n.invariant.0 (line_is P _ _ _ _ c.point.ensures c.pull_of.ensures c.in-Ok.ensures.text),
+    let P : Site → Pull → Type 0 = λ s p. PutsAll (g.K.Sink.written c.loop-n.sink) (g.K.Sink.written c.put_body.new.sink) c.loop-n.buffer
+    c.put_body.new.buffer (line_text (body_line c.loop-n.n s p)) in (
+      number_more (λ k. line_text (body_line_of c.args.engine.now k)) c.loop-n.n _ _ _ _ _ _ c.loop-n.invariant.0
+          (line_is P _ _ _ _ c.point.ensures c.pull_of.ensures c.in-Ok.ensures.text),
       omega (arith, c.loop-n.invariant.1, c.in-Ok.ensures.cause.later),
     )
 
 pub returns-in-Err-clause-text : goal.returns-in-Err-clause-text
 returns-in-Err-clause-text g c =
     let e = c.args.engine.now in
-    let P : Site → Pull → Type 0 = λ s p. PutsFront (g.K.Sink.written c.loop-n.sink) (g.K.Sink.written c.put_body.new.sink) c.loop-n.buffer (line_text (body_line c.loop-n.n s p)) in
+    let P : Site → Pull → Type 0 = λ s p. PutsFront (g.K.Sink.written c.loop-n.sink) (g.K.Sink.written c.put_body.new.sink) c.loop-n.buffer
+    (line_text (body_line c.loop-n.n s p)) in
     let within : c.loop-n.n < length e.bodies = omega (arith, c.requires.bodies, c.loop-n-test.true) in
     rw (flat_map-map line_text (body_line_of e) (numbers (length e.bodies)))
-    (number_failed (λ k. line_text (body_line_of e k)) (length e.bodies) c.loop-n.n _ _ _ _ _ within c.loop-n.invariant.0 (line_is P _ _ _ _ c.point.ensures c.pull_of.ensures c.in-Err.ensures.text))
+    (number_failed (λ k. line_text (body_line_of e k)) (length e.bodies) c.loop-n.n _ _ _ _ _ within c.loop-n.invariant.0
+    (line_is P _ _ _ _ c.point.ensures c.pull_of.ensures c.in-Err.ensures.text))
 
 pub returns-clause-text : goal.returns-clause-text
 returns-clause-text g c =

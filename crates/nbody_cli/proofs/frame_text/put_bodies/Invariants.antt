@@ -8,4 +8,5 @@ use Rattle.nbody_cli.proofs.frame_text.put_bodies.Given as goal
 
 abbrev pub invariant-loop-n : goal.invariant-loop-n
 invariant-loop-n g l =
-    PutsAll (g.K.Sink.written l.fn.sink) (g.K.Sink.written l.sink) l.fn.buffer l.buffer (flat_map (λ k. line_text (body_line_of l.engine k)) (numbers l.n)) × (g.K.Sink.faults l.fn.sink ≤ g.K.Sink.faults l.sink)
+    PutsAll (g.K.Sink.written l.fn.sink) (g.K.Sink.written l.sink) l.fn.buffer l.buffer (flat_map (λ k. line_text (body_line_of l.engine k)) (numbers l.n))
+    × (g.K.Sink.faults l.fn.sink ≤ g.K.Sink.faults l.sink)

@@ -18,12 +18,17 @@ pub returns-in_err-put_head-clause-text : goal.returns-in_err-put_head-clause-te
 returns-in_err-put_head-clause-text g c =
     let e = c.args.engine.now in
     let same = head_is (tree_of c.octree.result.now) (tree_of_bodies e.bodies) c.args.frame.now (frame_of e) c.octree.ensures.tree c.requires.figures in
-    let P : List TextLine → Type 0 = λ lines. PutsFront (g.K.Sink.written c.args.sink.now) (g.K.Sink.written c.put_head.new.sink) c.args.buffer.now (lines_text lines) in
-    list_stop line_text (head_lines (tree_of_bodies e.bodies) (frame_of e)) (zone_lines e ++ body_lines e) _ _ _ _ _ c.from_residual.ensures.0 (subst P same c.in_err-put_head.ensures.text)
+    let P : List TextLine
+    → Type 0 = λ lines. PutsFront (g.K.Sink.written c.args.sink.now) (g.K.Sink.written c.put_head.new.sink) c.args.buffer.now (lines_text lines) in
+    list_stop line_text (head_lines (tree_of_bodies e.bodies) (frame_of e)) (zone_lines e ++ body_lines e) _ _ _ _ _ c.from_residual.ensures.0
+    (subst P same c.in_err-put_head.ensures.text)
 
 pub returns-clause-text : goal.returns-clause-text
 returns-clause-text g c =
     let e = c.args.engine.now in
     let same = head_is (tree_of c.octree.result.now) (tree_of_bodies e.bodies) c.args.frame.now (frame_of e) c.octree.ensures.tree c.requires.figures in
-    let P : List TextLine → Type 0 = λ lines. PutsAll (g.K.Sink.written c.args.sink.now) (g.K.Sink.written c.put_head.new.sink) c.args.buffer.now c.put_head.new.buffer (lines_text lines) in
-    list_then line_text (head_lines (tree_of_bodies e.bodies) (frame_of e)) (zone_lines e ++ body_lines e) _ _ _ _ _ _ _ (subst P same c.in_ok-put_head.ensures.text) c.put_rows.ensures.text
+    let P : List TextLine
+    → Type 0 = λ lines. PutsAll (g.K.Sink.written c.args.sink.now) (g.K.Sink.written c.put_head.new.sink) c.args.buffer.now c.put_head.new.buffer
+    (lines_text lines) in
+    list_then line_text (head_lines (tree_of_bodies e.bodies) (frame_of e)) (zone_lines e ++ body_lines e) _ _ _ _ _ _ _
+    (subst P same c.in_ok-put_head.ensures.text) c.put_rows.ensures.text

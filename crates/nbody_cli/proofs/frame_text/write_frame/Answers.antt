@@ -10,7 +10,8 @@ returns-in_err-put_frame-clause-text g c =
     let a = g.K.Sink.written c.args.sink.now in
     let b = g.K.Sink.written c.put_frame.new.sink in
     let t = lines_text (frame_lines c.args.engine.now) in
-    puts_broken a b t c.from_residual.result c.from_residual.ensures.0 (subst (λ (y : List ℕ). PutsFront a b y t) c.new-buffer.ensures c.in_err-put_frame.ensures.text)
+    puts_broken a b t c.from_residual.result c.from_residual.ensures.0
+    (subst (λ (y : List ℕ). PutsFront a b y t) c.new-buffer.ensures c.in_err-put_frame.ensures.text)
 
 pub returns-clause-text : goal.returns-clause-text
 returns-clause-text g c =

@@ -7,4 +7,5 @@ use Rattle.nbody_cli.proofs.lines.put_lines.Given as goal
 
 abbrev pub invariant-loop-line : goal.invariant-loop-line
 invariant-loop-line g l =
-    PutsAll (g.K.Sink.written l.fn.sink) (g.K.Sink.written l.sink) l.fn.buffer l.buffer (flat_map (λ x. line_text (line_of x)) (take l.line-index l.lines)) × (g.K.Sink.faults l.fn.sink ≤ g.K.Sink.faults l.sink)
+    PutsAll (g.K.Sink.written l.fn.sink) (g.K.Sink.written l.sink) l.fn.buffer l.buffer (flat_map (λ x. line_text (line_of x)) (take l.line-index l.lines))
+    × (g.K.Sink.faults l.fn.sink ≤ g.K.Sink.faults l.sink)

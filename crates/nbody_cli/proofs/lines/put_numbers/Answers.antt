@@ -10,4 +10,5 @@ loop-number-preserved g c = (
 )
 
 pub returns-in-Err-clause-text : goal.returns-in-Err-clause-text
-returns-in-Err-clause-text g c = row_failed number_text c.args.numbers.now c.loop-number.number-index 0 _ _ _ _ _ c.loop-number-test.true c.loop-number.invariant.0 c.in-Err.ensures.text
+returns-in-Err-clause-text g c =
+    row_failed number_text c.args.numbers.now c.loop-number.number-index 0 _ _ _ _ _ c.loop-number-test.true c.loop-number.invariant.0 c.in-Err.ensures.text

@@ -19,7 +19,8 @@ returns-in-Tree g c =
     let planned = ap (λ (q : Choices). command_lines command.Tree q bodies) c.options.view_is in
     let named : p.command ≡ command.Tree = sym (ap (λ (q : Choices). q.command) c.options.view_is) ∙ c.in-Tree.is in
     let asked = ap (λ (k : Command). command_lines k p bodies) named in
-    subst (λ (y : List TextLine). Ends (wanted_of_bodies (lines_text y)) (sink_world (g.K.Sink.written c.args.sink.now) (g.K.Sink.faults c.args.sink.now)) (sink_world (g.K.Sink.written c.answer_tree.new.sink) (g.K.Sink.faults c.answer_tree.new.sink)) c.answer_tree.result)
+    subst (λ (y : List TextLine). Ends (wanted_of_bodies (lines_text y)) (sink_world (g.K.Sink.written c.args.sink.now) (g.K.Sink.faults c.args.sink.now))
+    (sink_world (g.K.Sink.written c.answer_tree.new.sink) (g.K.Sink.faults c.answer_tree.new.sink)) c.answer_tree.result)
     (written ∙ planned ∙ sym asked) c.answer_tree.ensures
 
 pub returns-in-Run : goal.returns-in-Run
@@ -31,5 +32,6 @@ returns-in-Run g c =
     let planned = ap (λ (q : Choices). command_lines command.Run q bodies) c.options.view_is in
     let named : p.command ≡ command.Run = sym (ap (λ (q : Choices). q.command) c.options.view_is) ∙ c.in-Run.is in
     let asked = ap (λ (k : Command). command_lines k p bodies) named in
-    subst (λ (y : List TextLine). Ends (wanted_of_bodies (lines_text y)) (sink_world (g.K.Sink.written c.args.sink.now) (g.K.Sink.faults c.args.sink.now)) (sink_world (g.K.Sink.written c.answer_run.new.sink) (g.K.Sink.faults c.answer_run.new.sink)) c.answer_run.result)
+    subst (λ (y : List TextLine). Ends (wanted_of_bodies (lines_text y)) (sink_world (g.K.Sink.written c.args.sink.now) (g.K.Sink.faults c.args.sink.now))
+    (sink_world (g.K.Sink.written c.answer_run.new.sink) (g.K.Sink.faults c.answer_run.new.sink)) c.answer_run.result)
     (written ∙ planned ∙ sym asked) c.answer_run.ensures

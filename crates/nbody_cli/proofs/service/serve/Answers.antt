@@ -15,17 +15,22 @@ returns-in-Ok-clause-untouched g c = λ none. absurd (needs _ c.in-Ok.options c.
 
 pub returns-in-Err-OutOfMemory-clause-serves : goal.returns-in-Err-OutOfMemory-clause-serves
 returns-in-Err-OutOfMemory-clause-serves g c =
-    serves_memory (options_of (map string_bytes c.args.words.now)) (g.S.Source.left c.args.source.now) (g.S.Source.left c.args.source.now) (g.S.Source.faults c.args.source.now)
+    serves_memory (options_of (map string_bytes c.args.words.now)) (g.S.Source.left c.args.source.now) (g.S.Source.left c.args.source.now)
+    (g.S.Source.faults c.args.source.now)
     (g.S.Source.faults c.args.source.now) (g.K.Sink.written c.args.sink.now) (g.K.Sink.faults c.args.sink.now) (g.K.Sink.faults c.args.sink.now)
 
 pub returns-in-Ok-write_usage-clause-serves : goal.returns-in-Ok-write_usage-clause-serves
 returns-in-Ok-write_usage-clause-serves g c =
-    serves_usage (options_of (map string_bytes c.args.words.now)) (world (g.S.Source.left c.args.source.now) (g.S.Source.faults c.args.source.now) (g.K.Sink.written c.args.sink.now) (g.K.Sink.faults c.args.sink.now))
-    (world (g.S.Source.left c.args.source.now) (g.S.Source.faults c.args.source.now) (g.K.Sink.written c.write_usage.new.sink) (g.K.Sink.faults c.write_usage.new.sink)) status.Usage
+    serves_usage (options_of (map string_bytes c.args.words.now))
+    (world (g.S.Source.left c.args.source.now) (g.S.Source.faults c.args.source.now) (g.K.Sink.written c.args.sink.now) (g.K.Sink.faults c.args.sink.now))
+    (world (g.S.Source.left c.args.source.now) (g.S.Source.faults c.args.source.now) (g.K.Sink.written c.write_usage.new.sink)
+    (g.K.Sink.faults c.write_usage.new.sink)) status.Usage
     (rw c.in-Err-Usage.field-0-is at c.in-Err-Usage.ensures) (refl, c.in-Ok-write_usage.ensures.text)
 
 pub returns-in-Err-clause-serves : goal.returns-in-Err-clause-serves
 returns-in-Err-clause-serves g c =
-    serves_usage (options_of (map string_bytes c.args.words.now)) (world (g.S.Source.left c.args.source.now) (g.S.Source.faults c.args.source.now) (g.K.Sink.written c.args.sink.now) (g.K.Sink.faults c.args.sink.now))
-    (world (g.S.Source.left c.args.source.now) (g.S.Source.faults c.args.source.now) (g.K.Sink.written c.write_usage.new.sink) (g.K.Sink.faults c.write_usage.new.sink)) status.Write
+    serves_usage (options_of (map string_bytes c.args.words.now))
+    (world (g.S.Source.left c.args.source.now) (g.S.Source.faults c.args.source.now) (g.K.Sink.written c.args.sink.now) (g.K.Sink.faults c.args.sink.now))
+    (world (g.S.Source.left c.args.source.now) (g.S.Source.faults c.args.source.now) (g.K.Sink.written c.write_usage.new.sink)
+    (g.K.Sink.faults c.write_usage.new.sink)) status.Write
     (rw c.in-Err-Usage.field-0-is at c.in-Err-Usage.ensures) (c.in-Err.ensures.cause.failed, c.in-Err.ensures.text)

@@ -19,23 +19,28 @@ use Rattle.frame_core.proofs.engine.Engine.frame_parts.Goals as goal
 pub zones-requires-clause-costs_of_bodies : goal.zones-requires-clause-costs_of_bodies
 zones-requires-clause-costs_of_bodies g c n b =
     let i = c.self.inside in
-    let octree = octree_of_stage i c.args.self.now c.in-Some.kept c.octree-tree.result.now c.self.view_is c.self.invariant c.requires c.in-Some.is c.octree-tree.ensures in
+    let octree = octree_of_stage i c.args.self.now c.in-Some.kept c.octree-tree.result.now c.self.view_is c.self.invariant c.requires c.in-Some.is
+    c.octree-tree.ensures in
     omega (arith, body_within i.bodies c.octree-tree.result.now n octree b, c.self.invariant.one_cost_each, ap length c.as_slice-costs.ensures.value)
 
 pub pulls-requires-clause-inside : goal.pulls-requires-clause-inside
 pulls-requires-clause-inside g c =
     let i = c.self.inside in
     let cost = cost_at c.as_slice-costs.result.now in
-    let octree = octree_of_stage i c.args.self.now c.in-Some.kept c.octree-tree.result.now c.self.view_is c.self.invariant c.requires c.in-Some.is c.octree-tree.ensures in
-    let cut = zones_of (λ z. z.items) c.as_slice-cut.result.now c.in_ok-zones.zones.items cost c.plan.inside.workers i.bodies c.octree-tree.result.now octree c.as_slice-cut.ensures.value c.in_ok-zones.ensures in
+    let octree = octree_of_stage i c.args.self.now c.in-Some.kept c.octree-tree.result.now c.self.view_is c.self.invariant c.requires c.in-Some.is
+    c.octree-tree.ensures in
+    let cut = zones_of (λ z. z.items) c.as_slice-cut.result.now c.in_ok-zones.zones.items cost c.plan.inside.workers i.bodies c.octree-tree.result.now octree
+    c.as_slice-cut.ensures.value c.in_ok-zones.ensures in
     zones_inside (λ z. z.items) c.as_slice-cut.result.now cost c.plan.inside.workers i.bodies c.len-count.ensures.rule cut
 
 pub pulls-requires-clause-covered : goal.pulls-requires-clause-covered
 pulls-requires-clause-covered g c =
     let i = c.self.inside in
     let costs = c.as_slice-costs.result.now in
-    let octree = octree_of_stage i c.args.self.now c.in-Some.kept c.octree-tree.result.now c.self.view_is c.self.invariant c.requires c.in-Some.is c.octree-tree.ensures in
-    let cut = zones_of (λ z. z.items) c.as_slice-cut.result.now c.in_ok-zones.zones.items (cost_at costs) c.plan.inside.workers i.bodies c.octree-tree.result.now octree c.as_slice-cut.ensures.value c.in_ok-zones.ensures in
+    let octree = octree_of_stage i c.args.self.now c.in-Some.kept c.octree-tree.result.now c.self.view_is c.self.invariant c.requires c.in-Some.is
+    c.octree-tree.ensures in
+    let cut = zones_of (λ z. z.items) c.as_slice-cut.result.now c.in_ok-zones.zones.items (cost_at costs) c.plan.inside.workers i.bodies
+    c.octree-tree.result.now octree c.as_slice-cut.ensures.value c.in_ok-zones.ensures in
     zones_cover (λ z. z.items) c.as_slice-cut.result.now (cost_at costs) c.plan.inside.workers i.bodies c.len-count.ensures.rule cut c.plan.invariant.0
     (λ n l.
     let P : List ℕ → Type 0 = λ y. 1 ≤ cost_at y n in
@@ -44,20 +49,24 @@ pulls-requires-clause-covered g c =
 
 pub sum_up-sums-requires-clause-one_each : goal.sum_up-sums-requires-clause-one_each
 sum_up-sums-requires-clause-one_each g c =
-    ap length c.deref.ensures.value ∙ pulls_count c.plan.inside.law c.self.inside.bodies (tree_of c.octree-tree.result.now) c.in_ok-pulls.pulls.items c.in_ok-pulls.ensures.value
+    ap length c.deref.ensures.value
+    ∙ pulls_count c.plan.inside.law c.self.inside.bodies (tree_of c.octree-tree.result.now) c.in_ok-pulls.pulls.items c.in_ok-pulls.ensures.value
 
 pub whole_cost-requires-clause-costs_of_bodies : goal.whole_cost-requires-clause-costs_of_bodies
 whole_cost-requires-clause-costs_of_bodies g c n b =
     let i = c.self.inside in
-    let octree = octree_of_stage i c.args.self.now c.in-Some.kept c.octree-tree.result.now c.self.view_is c.self.invariant c.requires c.in-Some.is c.octree-tree.ensures in
+    let octree = octree_of_stage i c.args.self.now c.in-Some.kept c.octree-tree.result.now c.self.view_is c.self.invariant c.requires c.in-Some.is
+    c.octree-tree.ensures in
     omega (arith, body_within i.bodies c.octree-tree.result.now n octree b, c.self.invariant.one_cost_each, ap length c.as_slice-costs.ensures.value)
 
 pub greatest_cost-requires-clause-inside : goal.greatest_cost-requires-clause-inside
 greatest_cost-requires-clause-inside g c w d l k e m =
     let i = c.self.inside in
     let cost = cost_at c.as_slice-costs.result.now in
-    let octree = octree_of_stage i c.args.self.now c.in-Some.kept c.octree-tree.result.now c.self.view_is c.self.invariant c.requires c.in-Some.is c.octree-tree.ensures in
-    let cut = zones_of (λ z. z.items) c.as_slice-cut.result.now c.in_ok-zones.zones.items cost c.plan.inside.workers i.bodies c.octree-tree.result.now octree c.as_slice-cut.ensures.value c.in_ok-zones.ensures in
+    let octree = octree_of_stage i c.args.self.now c.in-Some.kept c.octree-tree.result.now c.self.view_is c.self.invariant c.requires c.in-Some.is
+    c.octree-tree.ensures in
+    let cut = zones_of (λ z. z.items) c.as_slice-cut.result.now c.in_ok-zones.zones.items cost c.plan.inside.workers i.bodies c.octree-tree.result.now octree
+    c.as_slice-cut.ensures.value c.in_ok-zones.ensures in
     let less = zones_inside (λ z. z.items) c.as_slice-cut.result.now cost c.plan.inside.workers i.bodies c.len-count.ensures.rule cut w d l k e m in
     omega (arith, less, c.self.invariant.one_cost_each, ap length c.as_slice-costs.ensures.value)
 
@@ -65,10 +74,14 @@ pub greatest_cost-requires-clause-fits : goal.greatest_cost-requires-clause-fits
 greatest_cost-requires-clause-fits g c =
     let i = c.self.inside in
     let cost = cost_at c.as_slice-costs.result.now in
-    let octree = octree_of_stage i c.args.self.now c.in-Some.kept c.octree-tree.result.now c.self.view_is c.self.invariant c.requires c.in-Some.is c.octree-tree.ensures in
-    let cut = zones_of (λ z. z.items) c.as_slice-cut.result.now c.in_ok-zones.zones.items cost c.plan.inside.workers i.bodies c.octree-tree.result.now octree c.as_slice-cut.ensures.value c.in_ok-zones.ensures in
-    let whole : cost_of cost (order (tree_of c.octree-tree.result.now)) ≡ cost_of cost (order (tree_of_bodies i.bodies)) = ap (λ t. cost_of cost (order t)) (tree_is i.bodies c.octree-tree.result.now octree) in
-    zones_fit (λ z. z.items) c.as_slice-cut.result.now cost c.plan.inside.workers (tree_of_bodies i.bodies) (2 ^ 64) cut (omega (arith, whole, c.whole_cost.ensures, c.whole_cost.type_inv))
+    let octree = octree_of_stage i c.args.self.now c.in-Some.kept c.octree-tree.result.now c.self.view_is c.self.invariant c.requires c.in-Some.is
+    c.octree-tree.ensures in
+    let cut = zones_of (λ z. z.items) c.as_slice-cut.result.now c.in_ok-zones.zones.items cost c.plan.inside.workers i.bodies c.octree-tree.result.now octree
+    c.as_slice-cut.ensures.value c.in_ok-zones.ensures in
+    let whole : cost_of cost (order (tree_of c.octree-tree.result.now)) ≡ cost_of cost (order (tree_of_bodies i.bodies)) = ap (λ t. cost_of cost (order t))
+    (tree_is i.bodies c.octree-tree.result.now octree) in
+    zones_fit (λ z. z.items) c.as_slice-cut.result.now cost c.plan.inside.workers (tree_of_bodies i.bodies) (2 ^ 64) cut
+    (omega (arith, whole, c.whole_cost.ensures, c.whole_cost.type_inv))
 
 pub returns : goal.returns
 returns g c =
@@ -78,20 +91,25 @@ returns g c =
     let law = c.plan.inside.law in
     let workers = c.plan.inside.workers in
     let same : costs ≡ i.costs.items = c.as_slice-costs.ensures.value in
-    let octree = octree_of_stage i c.args.self.now c.in-Some.kept c.octree-tree.result.now c.self.view_is c.self.invariant c.requires c.in-Some.is c.octree-tree.ensures in
+    let octree = octree_of_stage i c.args.self.now c.in-Some.kept c.octree-tree.result.now c.self.view_is c.self.invariant c.requires c.in-Some.is
+    c.octree-tree.ensures in
     let tree = tree_is bodies c.octree-tree.result.now octree in
-    let cut = zones_of (λ z. z.items) c.as_slice-cut.result.now c.in_ok-zones.zones.items (cost_at costs) workers bodies c.octree-tree.result.now octree c.as_slice-cut.ensures.value c.in_ok-zones.ensures in
+    let cut = zones_of (λ z. z.items) c.as_slice-cut.result.now c.in_ok-zones.zones.items (cost_at costs) workers bodies c.octree-tree.result.now octree
+    c.as_slice-cut.ensures.value c.in_ok-zones.ensures in
     let found = c.in_ok-pulls.pulls.items in
-    let all : found ≡ pulls law (matter_of bodies) (length bodies) (tree_of_bodies bodies) = pulls_on law bodies (tree_of c.octree-tree.result.now) found tree c.in_ok-pulls.ensures.value in
+    let all : found ≡ pulls law (matter_of bodies) (length bodies) (tree_of_bodies bodies) = pulls_on law bodies (tree_of c.octree-tree.result.now) found tree
+    c.in_ok-pulls.ensures.value in
     let read : c.deref.result.now ≡ pulls law (matter_of bodies) (length bodies) (tree_of_bodies bodies) = c.deref.ensures.value ∙ all in
     let sums = c.sum_up-sums.ensures in
     let F : TreePlan → Type 0 = λ p.
-    figures i.step c.len-count.result c.cells.result c.whole_cost.result c.greatest_cost.result c.sum_up-sums.result.met (to_z w128 (of_z w128 c.sum_up-sums.result.push_x))
+    figures i.step c.len-count.result c.cells.result c.whole_cost.result c.greatest_cost.result c.sum_up-sums.result.met
+    (to_z w128 (of_z w128 c.sum_up-sums.result.push_x))
     (to_z w128 (of_z w128 c.sum_up-sums.result.push_y)) (to_z w128 (of_z w128 c.sum_up-sums.result.push_z)) ≡ frame_figures p (cost_at costs) i.step bodies in
     let told = subst F c.plan.view_is
     (same_figures i.step _ _ _ _ _ _ _ _ _ _ _ _ _ _ _ _ c.len-count.ensures.value (c.cells.ensures.tree ∙ ap cell_count tree)
     (c.whole_cost.ensures ∙ ap (λ t. cost_of (cost_at costs) (order t)) tree)
-    (c.greatest_cost.ensures ∙ greatest_is (λ z. z.items) c.as_slice-cut.result.now (cost_at costs) workers (tree_of_bodies bodies) cut) (sums.met ∙ met_is law bodies c.deref.result.now read)
+    (c.greatest_cost.ensures ∙ greatest_is (λ z. z.items) c.as_slice-cut.result.now (cost_at costs) workers (tree_of_bodies bodies) cut)
+    (sums.met ∙ met_is law bodies c.deref.result.now read)
     (read_again c.sum_up-sums.result.push_x sums.small_x ∙ sums.push_x ∙ push_is (λ p. p.ax) law bodies c.deref.result.now read)
     (read_again c.sum_up-sums.result.push_y sums.small_y ∙ sums.push_y ∙ push_is (λ p. p.ay) law bodies c.deref.result.now read)
     (read_again c.sum_up-sums.result.push_z sums.small_z ∙ sums.push_z ∙ push_is (λ p. p.az) law bodies c.deref.result.now read)) in

@@ -17,5 +17,7 @@ returns c =
     let e = c.args.self.now in
     let lists = c.in-Frame.parts.zones.items in
     let parts = frame_of_stage c.self.inside e c.in-Frame.parts c.self.view_is c.self.invariant c.in-Frame.is in
-    let less : c.args.w < length lists = omega (arith, zones_count (λ z. z.items) lists (cost_at e.costs) e.plan.workers (tree_of_bodies e.bodies) parts.zones, c.requires.worker) in
-    c.deref.ensures.value ∙ ap (λ z. z.items) c.index.ensures ∙ zone_is (λ z. z.items) lists (cost_at e.costs) e.plan.workers (tree_of_bodies e.bodies) c.args.w c.index.result.now parts.zones less
+    let less : c.args.w < length lists = omega
+    (arith, zones_count (λ z. z.items) lists (cost_at e.costs) e.plan.workers (tree_of_bodies e.bodies) parts.zones, c.requires.worker) in
+    c.deref.ensures.value ∙ ap (λ z. z.items) c.index.ensures
+    ∙ zone_is (λ z. z.items) lists (cost_at e.costs) e.plan.workers (tree_of_bodies e.bodies) c.args.w c.index.result.now parts.zones less
