@@ -33,7 +33,7 @@ fn masses_of(alloc: Global, bodies: &Bodies) -> Result<Vec<u32>, OutOfMemory>
 }
 
 /// The numbers below a count.
-fn numbers_below(alloc: Global, count: u32) -> Result<Vec<u32>, OutOfMemory>
+pub fn numbers_below(alloc: Global, count: u32) -> Result<Vec<u32>, OutOfMemory>
     ensures { IfOk result (λ list. list.items ≡ numbers count) }
 {
     let mut list = Vec::new(alloc);

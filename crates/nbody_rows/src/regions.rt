@@ -1,7 +1,10 @@
 //! Regions of free cells.
 
+use crate::plain::numbers_below;
 use cell_pool::Region;
+use octant_code::OutOfMemory;
 use octree::CellNo;
+use std::alloc::Global;
 use std::test::Fail;
 
 #[test]
@@ -20,12 +23,20 @@ fn cells_are_taken_and_given_back_at_the_end(rt: HostRuntime) -> Result<(), Fail
     Ok(())
 }
 
+/// The region of the cells below a count.
+fn first_cells(alloc: Global, count: u32) -> Result<Region, OutOfMemory> {
+    Ok(Region::of(numbers_below(alloc, count)?))
+}
+
 #[test]
 fn a_region_of_a_thousand_cells_is_split(rt: HostRuntime) -> Result<(), Fail> {
-    let numbers: Vec<u32> = (0..1000u32).collect(rt.alloc())?;
-    let mut region = Region::of(numbers);
+    let mut region = first_cells(rt.alloc(), 1000)?;
+    assert_eq!(rt; region.len(), 1000);
     let tail = region.split_off(600)?;
     assert_eq!(rt; tail.len(), 600);
     assert_eq!(rt; region.len(), 400);
+    region.spend(150);
+    assert_eq!(rt; region.rest().first(), Some(&150));
+    assert_eq!(rt; region.room(), 850);
     Ok(())
 }

@@ -6,76 +6,82 @@ use nbody_cli::{Status, serve};
 use std::process::Abort;
 use std::test::Fail;
 
+/// The command `tree` writes this text for a scene.
+fn tree_is<R: Abort + AllocGlobal>(rt: &R, scene: &[u8], text: &[u8]) -> Result<(), Fail> {
+    gives(rt, "tree", scene, Status::Done, text)
+}
+
 #[test]
 fn trees_of_scenes(rt: HostRuntime) -> Result<(), Fail> {
-    let rows = [
-        // no body
-        ("", "."),
-        // one body
-        ("body,9,5,6,7\n", "b0"),
-        // two bodies in two octants
-        ("body,1,0,0,0\nbody,1,1048576,0,0\n", "(b0...b1...)"),
-        // the last record needs no newline
-        ("body,1,0,0,0\nbody,1,1048576,0,0", "(b0...b1...)"),
-        // two bodies in opposite corners
-        (
-            "body,1,0,0,0\nbody,1,2097151,2097151,2097151\n",
-            "(b0......b1)",
-        ),
-        // two bodies in one deep cell, one step apart in z
-        (
-            "body,1,0,0,0\nbody,1,0,0,1\n",
-            "(((((((((((((((((((((b0b1......).......).......).......).......).......).......).......).......).......).......).......).......).......).......).......).......).......).......).......).......)",
-        ),
-        // a quoted field, a carriage return and an empty line
-        (
-            "\"body\",\"1\",0,0,0\r\n\nbody,1,1048576,0,0\n",
-            "(b0...b1...)",
-        ),
-    ];
-    for (scene, tree) in rows {
-        let text = format!(in rt.alloc(); "tree {tree}\n")?;
-        gives(&rt, "tree", scene.as_bytes(), Status::Done, text.as_bytes())?;
-    }
-    Ok(())
+    // no body
+    tree_is(&rt, b"", b"tree .\n")?;
+    // one body
+    tree_is(&rt, b"body,9,5,6,7\n", b"tree b0\n")?;
+    // two bodies in two octants
+    tree_is(
+        &rt,
+        b"body,1,0,0,0\nbody,1,1048576,0,0\n",
+        b"tree (b0...b1...)\n",
+    )?;
+    // the last record needs no newline
+    tree_is(
+        &rt,
+        b"body,1,0,0,0\nbody,1,1048576,0,0",
+        b"tree (b0...b1...)\n",
+    )?;
+    // two bodies in opposite corners
+    tree_is(
+        &rt,
+        b"body,1,0,0,0\nbody,1,2097151,2097151,2097151\n",
+        b"tree (b0......b1)\n",
+    )?;
+    // two bodies in one deep cell, one step apart in z
+    tree_is(
+        &rt,
+        b"body,1,0,0,0\nbody,1,0,0,1\n",
+        b"tree (((((((((((((((((((((b0b1......).......).......).......).......).......).......).......).......).......).......).......).......).......).......).......).......).......).......).......).......)\n",
+    )?;
+    // a quoted field, a carriage return and an empty line
+    tree_is(
+        &rt,
+        b"\"body\",\"1\",0,0,0\r\n\nbody,1,1048576,0,0\n",
+        b"tree (b0...b1...)\n",
+    )
+}
+
+/// A scene is refused by this line.
+fn is_refused<R: Abort + AllocGlobal>(rt: &R, scene: &[u8], line: &[u8]) -> Result<(), Fail> {
+    gives(rt, "tree", scene, Status::Scene, line)
 }
 
 #[test]
 fn scenes_that_are_refused(rt: HostRuntime) -> Result<(), Fail> {
-    let rows = [
-        ("star,1,0,0,0\n", "bad-record 1"),
-        ("body,1,0,0,0,\n", "bad-record 1"),
-        // cut in the middle of a record
-        ("body,1,0,0,0\nbody,1,5", "bad-record 2"),
-        ("body,1,0,x,0\n", "bad-number 1 4"),
-        ("body,+1,0,0,0\n", "bad-number 1 2"),
-        ("body,,0,0,0\n", "bad-number 1 2"),
-        ("body, 1,0,0,0\n", "bad-number 1 2"),
-        // digits are looked for in all fields before any range
-        ("body,0,x,0,0\n", "bad-number 1 3"),
-        ("body,0,0,0,0\n", "out-of-range 1 2"),
-        ("body,1,0,0,0\nbody,1,0,2097152,0\n", "out-of-range 2 4"),
-        (
-            "body,1,99999999999999999999999999999999999999999999999999,0,0\n",
-            "out-of-range 1 3",
-        ),
-        (
-            "body,1,0,0,0\nbody,1,1,0,0\nbody,1,0,0,0\n",
-            "coincident 3 0 2",
-        ),
-    ];
-    for (scene, fault) in rows {
-        let text = format!(in rt.alloc(); "refused {fault}\n")?;
-        gives(
-            &rt,
-            "tree",
-            scene.as_bytes(),
-            Status::Scene,
-            text.as_bytes(),
-        )?;
-        gives(&rt, "run", scene.as_bytes(), Status::Scene, text.as_bytes())?;
-    }
-    Ok(())
+    is_refused(&rt, b"star,1,0,0,0\n", b"refused bad-record 1\n")?;
+    is_refused(&rt, b"body,1,0,0,0,\n", b"refused bad-record 1\n")?;
+    // cut in the middle of a record
+    is_refused(&rt, b"body,1,0,0,0\nbody,1,5", b"refused bad-record 2\n")?;
+    is_refused(&rt, b"body,1,0,x,0\n", b"refused bad-number 1 4\n")?;
+    is_refused(&rt, b"body,+1,0,0,0\n", b"refused bad-number 1 2\n")?;
+    is_refused(&rt, b"body,,0,0,0\n", b"refused bad-number 1 2\n")?;
+    is_refused(&rt, b"body, 1,0,0,0\n", b"refused bad-number 1 2\n")?;
+    // digits are looked for in all fields before any range
+    is_refused(&rt, b"body,0,x,0,0\n", b"refused bad-number 1 3\n")?;
+    is_refused(&rt, b"body,0,0,0,0\n", b"refused out-of-range 1 2\n")?;
+    is_refused(
+        &rt,
+        b"body,1,0,0,0\nbody,1,0,2097152,0\n",
+        b"refused out-of-range 2 4\n",
+    )?;
+    is_refused(
+        &rt,
+        b"body,1,99999999999999999999999999999999999999999999999999,0,0\n",
+        b"refused out-of-range 1 3\n",
+    )?;
+    is_refused(
+        &rt,
+        b"body,1,0,0,0\nbody,1,1,0,0\nbody,1,0,0,0\n",
+        b"refused coincident 3 0 2\n",
+    )
 }
 
 /// The records of so many bodies of one mass, side by side along an axis.

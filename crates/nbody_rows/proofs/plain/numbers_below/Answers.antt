@@ -8,4 +8,4 @@ loop-n-init c = c.new-list.ensures.items
 
 pub loop-n-preserved : goal.loop-n-preserved
 unfolding numbers
-loop-n-preserved c = rw add-one (c.in-Ok.ensures.items ∙ ap (λ (xs : List ℕ). xs ++ (c.loop-n.n ∷ [])) c.loop-n.invariant)
+loop-n-preserved c = rw add-one (c.in_ok-push.ensures.items ∙ ap (λ (xs : List ℕ). xs ++ (c.loop-n.n ∷ [])) c.loop-n.invariant)
