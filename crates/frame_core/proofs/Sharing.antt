@@ -52,8 +52,8 @@ shares_more its xs y d n workers count own is less joins before =
     ap (λ z. get_or z k []) (map-set its xs own y)
     ∙ elim (eqb_tells own k) [
       | inl t ↦ (let P : ℕ → Type 0 = λ j. get_or (set (map its xs) own (its y)) j [] ≡ f j ++ (n ∷ []) in subst P t.1 (same refl)
-      ∙ sym (ap (λ b. grown b (f k) n) t.0))
+          ∙ sym (ap (λ b. grown b (f k) n) t.0))
       | inr u ↦ (let apart : k ≢ own = λ e. u.1 (sym e) in get_or-set_other (map its xs) own k (its y) [] apart ∙ old k within
-      ∙ sym (ap (λ b. grown b (f k) n) u.0))
+          ∙ sym (ap (λ b. grown b (f k) n) u.0))
     ]
     ∙ sym (new k within))
