@@ -1,5 +1,9 @@
 -- The masses of a scene's bodies, as a list by the bodies' numbers.
-use Rattle.std.proofs.Common.{ℕ, ◌^◌, ◌<◌, ◌≡◌, ◌∙◌, List, length, map, sum_by, slice_index, ap, sym, subst, arith}
+use Rattle.std.proofs.Common.{ℕ, ◌^◌, ◌<◌, ◌≤◌, ◌≡◌, ◌∙◌, List, get_or, length, map, sum_by, slice_index, ap, sym, subst, arith}
+use Rattle.std.proofs.lemmas.List.Elements.{All-get_or}
+use Rattle.std.proofs.lemmas.List.Sums.{sum_by-le}
+use Rattle.std.proofs.Math.Nat.{mul-le-mul_right}
+use Rattle.bh_model.specs.Zones.{IsCost}
 use Rattle.std.proofs.lemmas.List.{get_or-map, length-map}
 use Rattle.std.specs.List.{All}
 use Rattle.octant_code.specs.Space.{Site}
@@ -43,3 +47,11 @@ masses_count bodies masses are = ap length are ∙ length-map bodies (λ (b : Bo
 
 pub points_count : (bodies : List Body) (points : List Site) → points ≡ sites_of bodies → length points ≡ length bodies
 points_count bodies points are = ap length are ∙ length-map bodies (λ (b : Body). b.at)
+
+-- the costs of at most 65,536 bodies are below 2 ^ 64 together
+pub costs_cheap : (costs all : List ℕ) → All IsCost costs → All (λ n. n < length costs) all → length all ≤ 65536
+    → sum_by (λ n. slice_index costs n) all < 2 ^ 64
+costs_cheap costs all each within few =
+    let most = sum_by-le (λ n. slice_index costs n) 65536 all
+    (λ k d l. (All-get_or IsCost costs (get_or all k d) 0 (within k d l) each).small) in
+    omega (arith, most, mul-le-mul_right 65536 few)

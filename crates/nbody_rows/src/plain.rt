@@ -1,21 +1,18 @@
 //! The plain program and the real path: pulls by laws at both ends of their ranges over the greatest
-//! masses and points at the corners of the cube, and moments and zones by unequal costs.
+//! masses and points at the corners of the cube, and the moment of all bodies by unequal costs.
 
 ghost use Rattle.std.specs.Prelude.{◌≡◌, ◌<◌, ◌≤◌, ◌^◌, All, IfOk, length, map};
 ghost use Rattle.bh_model.specs.Bodies.{numbers};
 ghost use Rattle.bh_model.specs.Zones.{IsCost};
-ghost use Rattle.octree.specs.Stored.{IsOctreeOf};
-ghost use Rattle.scene_file.specs.Bodies.{sites_of};
 ghost use Rattle.scene_file.specs.declared.bodies.Body.{Body};
 
 use crate::made::made_scene;
 use bh_model::{Builder, Law, Plan, Pull};
-use bh_plain::{plain_moment, plain_pull, plain_zone};
-use costzones::zones;
+use bh_plain::{plain_moment, plain_pull};
 use frame_core::Engine;
 use mass_moments::{Moment, Moments, moments};
 use octant_code::OutOfMemory;
-use octree::{Node, Octree};
+use octree::{CellNo, Node, Octree};
 use scene_file::{Bodies, read_scene};
 use std::alloc::Global;
 use std::process::Abort;
@@ -137,24 +134,17 @@ fn plain_whole(alloc: Global, bodies: &Bodies, costs: &[u32]) -> Result<Moment, 
     plain_moment(alloc, &points, &masses, costs, &all)
 }
 
-/// The zone of a worker, by the plain program.
-fn plain_zone_of(
-    alloc: Global,
-    bodies: &Bodies,
-    costs: &[u32],
-    workers: u32,
-    w: u32,
-) -> Result<Vec<u32>, OutOfMemory>
-    requires { length costs.now ≡ length bodies.now }
-{
-    let count = bodies.len();
-    let points = bodies.points(alloc)?;
-    let all = numbers_below(alloc, count)?;
-    plain_zone(alloc, &points, costs, workers, w, &all)
+/// The moment at a cell's number, where the table has one there.
+fn moment_at(table: &Moments, c: CellNo) -> Option<Moment> {
+    if (c.0 as usize) < table.len() {
+        Some(table.of(c))
+    } else {
+        None
+    }
 }
 
 #[test]
-fn moments_and_zones_by_unequal_costs(rt: HostRuntime) -> Result<(), Fail> {
+fn the_moment_of_all_bodies_by_unequal_costs(rt: HostRuntime) -> Result<(), Fail> {
     let alloc = rt.alloc();
     let bodies = read_scene(alloc, &made_scene(alloc, 300)?)?.bodies;
     let costs = unequal_costs(alloc, bodies.len())?;
@@ -164,14 +154,9 @@ fn moments_and_zones_by_unequal_costs(rt: HostRuntime) -> Result<(), Fail> {
     let Node::Cell(root) = tree.root() else {
         return Err(Fail::from("a root that is no cell"));
     };
-    assert_eq!(rt; table.of(root), plain_whole(alloc, &bodies, &costs)?);
-    let cut = zones(alloc, &tree, &table, &costs, 7)?;
-    let mut w = 0;
-    for zone in &cut {
-        let plain = plain_zone_of(alloc, &bodies, &costs, 7, w)?;
-        assert!(rt; zone.as_slice() == plain.as_slice());
-        w += 1;
-    }
-    assert_eq!(rt; w, 7);
+    assert_eq!(rt;
+        moment_at(&table, root),
+        Some(plain_whole(alloc, &bodies, &costs)?)
+    );
     Ok(())
 }
