@@ -1,10 +1,10 @@
 //! Decimal numbers.
 
-ghost use Rattle.std.specs.Prelude.{◌≡◌, ◌≤◌, ◌^◌, length, min, true};
-ghost use Rattle.std.specs.Char.{is_ascii_digit};
+ghost use Rattle.std.specs.Prelude.{◌≡◌, ◌<◌, ◌≤◌, ◌^◌, IfSome, None, Some, if◌then◌else◌, is_some, length, min};
+ghost use Rattle.std.specs.Char.{digit_value, is_ascii_digit};
 ghost use Rattle.std.specs.List.{list_all};
 ghost use Rattle.std.specs.Str.Parse.{digits_value};
-ghost use Rattle.octant_code.specs.Decimal.{are_digits, decimal_read};
+ghost use Rattle.octant_code.specs.Decimal.{decimal_read};
 
 use thiserror::Error;
 
@@ -25,41 +25,58 @@ const SHORT: usize = 19;
 /// More than any 64-bit number.
 const CAP: u128 = 1 << 64;
 
-/// Whether the bytes are digits, and at least one.
-fn are_digits(bytes: &[u8]) -> bool
-    ensures { result ≡ are_digits bytes.now }
+/// The digit that a byte writes, where it writes one.
+fn digit_of(byte: u8) -> Option<u8>
+    ensures digit { is_some result ≡ is_ascii_digit byte }
+    ensures value { IfSome result (λ d. d ≡ digit_value byte) }
+    ensures small { IfSome result (λ d. d ≤ 9) }
 {
-    for byte in bytes {
-        if !byte.is_ascii_digit() {
-            return false;
-        }
+    if byte.is_ascii_digit() {
+        Some(byte - b'0')
+    } else {
+        None
     }
-    !bytes.is_empty()
 }
 
-/// The number of at most 19 digits.
-fn short_value(bytes: &[u8]) -> u64
-    requires short { length bytes.now ≤ 19 }
-    requires digits { list_all is_ascii_digit bytes.now ≡ true }
-    ensures { result ≡ digits_value 10 bytes.now }
+/// The number of at most 19 bytes, where all are digits. It takes one look at each byte.
+fn short_value(bytes: &[u8]) -> Option<u64>
+    requires { length bytes.now ≤ 19 }
+    ensures { result ≡ (if list_all is_ascii_digit bytes.now then Some (digits_value 10 bytes.now) else None) }
 {
     let mut value: u64 = 0;
     for byte in bytes {
-        value = value * 10 + u64::from(*byte - b'0');
+        let Some(digit) = digit_of(*byte) else {
+            return None;
+        };
+        value = value * 10 + u64::from(digit);
     }
-    value
+    Some(value)
 }
 
-/// The number of any number of digits, or 2^64 where it is more.
-fn capped_value(bytes: &[u8]) -> u128
-    requires { list_all is_ascii_digit bytes.now ≡ true }
-    ensures { result ≡ min (digits_value 10 bytes.now) (2 ^ 64) }
+/// The number of any number of bytes, or 2^64 where it is more, where all are digits.
+fn capped_value(bytes: &[u8]) -> Option<u128>
+    ensures { result ≡ (if list_all is_ascii_digit bytes.now then Some (min (digits_value 10 bytes.now) (2 ^ 64)) else None) }
 {
     let mut value: u128 = 0;
     for byte in bytes {
-        value = CAP.min(value * 10 + u128::from(*byte - b'0'));
+        let Some(digit) = digit_of(*byte) else {
+            return None;
+        };
+        value = CAP.min(value * 10 + u128::from(digit));
     }
-    value
+    Some(value)
+}
+
+/// Reads a number that may have more digits than 64 bits have room for.
+fn long_number(bytes: &[u8], max: u64) -> Result<u64, NumberFault>
+    requires { 0 < length bytes.now }
+    ensures { result ≡ decimal_read bytes.now max }
+{
+    match capped_value(bytes) {
+        None => Err(NumberFault::NotDigits),
+        Some(value) if value > u128::from(max) => Err(NumberFault::TooLarge),
+        Some(value) => Ok(value as u64),
+    }
 }
 
 /// Reads the number of at most `max` that the bytes write in decimal, with any number of digits and
@@ -67,21 +84,15 @@ fn capped_value(bytes: &[u8]) -> u128
 pub fn read_decimal(bytes: &[u8], max: u64) -> Result<u64, NumberFault>
     ensures { result ≡ decimal_read bytes.now max }
 {
-    if !are_digits(bytes) {
+    if bytes.is_empty() {
         return Err(NumberFault::NotDigits);
     }
-    if bytes.len() <= SHORT {
-        let value = short_value(bytes);
-        return if value > max {
-            Err(NumberFault::TooLarge)
-        } else {
-            Ok(value)
-        };
+    if bytes.len() > SHORT {
+        return long_number(bytes, max);
     }
-    let value = capped_value(bytes);
-    if value > u128::from(max) {
-        Err(NumberFault::TooLarge)
-    } else {
-        Ok(value as u64)
+    match short_value(bytes) {
+        None => Err(NumberFault::NotDigits),
+        Some(value) if value > max => Err(NumberFault::TooLarge),
+        Some(value) => Ok(value),
     }
 }
