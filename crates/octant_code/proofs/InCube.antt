@@ -1,7 +1,7 @@
 -- The sites of the cube that have one key at the deepest level are one.
 use Rattle.std.proofs.Common.{ℕ, ◌+◌, ◌-◌, ◌*◌, ◌/◌, ◌^◌, ◌<◌, ◌≤◌, ◌≡◌, zero, suc, sym, ◌∙◌, ap, arith}
 use Rattle.std.proofs.Math.Nat.{div-div-eq-div-mul, pow-suc}
-use Rattle.octant_code.specs.Space.{Site, IsInCube, octant_of, bit_at, key_of}
+use Rattle.octant_code.specs.Space.{Site, IsInCube, octant_of, bit_at, key_of, packed}
 use Rattle.octant_code.proofs.Keys.{key-suc, octant-bits, octant-small, same_parent, same_child}
 
 -- what is left of a coordinate above a level, with the level's bit
@@ -67,3 +67,15 @@ same_site s t p q e =
     let y : s.y ≡ t.y = omega (arith, a.y_same) in
     let z : s.z ≡ t.z = omega (arith, a.z_same) in
     site_parts s.x s.y s.z t.x t.y t.z x y z
+
+-- the higher and the lower part of a number in which two stand side by side
+parts : (a b c d : ℕ) → b < 2 ^ 21 → d < 2 ^ 21 → a * 2 ^ 21 + b ≡ c * 2 ^ 21 + d → (a ≡ c) × (b ≡ d)
+parts a b c d p q e = (omega arith, omega arith)
+
+-- sites of one packed number are one
+pub packed_once : (s t : Site) → IsInCube s → IsInCube t → packed s ≡ packed t → s ≡ t
+unfolding packed
+packed_once s t p q e =
+    let low = parts (s.x * 2 ^ 21 + s.y) s.z (t.x * 2 ^ 21 + t.y) t.z p.z_fits q.z_fits e in
+    let high = parts s.x s.y t.x t.y p.y_fits q.y_fits low.0 in
+    site_parts s.x s.y s.z t.x t.y t.z high.0 high.1 low.1

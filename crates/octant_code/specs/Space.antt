@@ -22,6 +22,10 @@ pub record IsInCube (s : Site) : Type 0 where
   pub y_fits : s.y < 2 ^ 21
   pub z_fits : s.z < 2 ^ 21
 
+-- the coordinates of a site side by side in one number, 21 bits each: no two sites of the cube have one
+unfoldable pub packed : Site → ℕ
+packed s = (s.x * 2 ^ 21 + s.y) * 2 ^ 21 + s.z
+
 -- the bit of a coordinate that decides at a level: the highest of its 21 bits at level 0
 abbrev pub bit_at : ℕ → ℕ → ℕ
 bit_at v level = v / 2 ^ (20 - level) % 2

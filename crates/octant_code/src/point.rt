@@ -27,7 +27,7 @@ impl Model for Point {
 
 impl Point {
     ghost use Rattle.std.specs.Prelude.{◌≡◌, ◌↔◌, IfSome, IsSome};
-    ghost use Rattle.octant_code.specs.Space.{IsInCube};
+    ghost use Rattle.octant_code.specs.Space.{IsInCube, packed};
 
     /// The point of three coordinates: None exactly where one of them is 2^21 or more.
     pub fn new(x: u32, y: u32, z: u32) -> Option<Point>
@@ -39,5 +39,15 @@ impl Point {
         } else {
             None
         }
+    }
+
+    /// The coordinates side by side in one number of 63 bits, x highest and z lowest: another number
+    /// for each point. A map hashes and compares it faster than three coordinates.
+    #[inline]
+    pub fn packed(self) -> u64
+        ensures { result ≡ packed self }
+    {
+        let side = u64::from(SIDE);
+        (u64::from(self.x) * side + u64::from(self.y)) * side + u64::from(self.z)
     }
 }

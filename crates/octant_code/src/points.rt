@@ -56,19 +56,20 @@ impl Points {
     ghost use Rattle.octant_code.specs.Points.{AreApart, ArePoints, site_at};
 
     /// Whether a list is one of at most 65,536 distinct points. It takes memory for a map of the
-    /// points, and about one look-up in it for each.
+    /// points, and one look-up in it for each.
     pub fn test(alloc: Global, list: &[Point]) -> Result<Distinct, OutOfMemory>
         ensures { IfOk result (IsTested list.now) }
     {
         if list.len() > MOST_BODIES as usize {
             return Ok(Distinct::TooMany);
         }
-        let mut seen: HashMap<Point, u32> = HashMap::new(alloc);
+        all_in_cube(list);
+        let mut seen: HashMap<u64, u32> = HashMap::new(alloc);
         for (i, p) in list.iter().enumerate() {
-            if let Some(first) = seen.get(p) {
-                return Ok(Distinct::Same(*first, i as u32));
+            match seen.insert(p.packed(), i as u32)? {
+                None => {}
+                Some(first) => return Ok(Distinct::Same(first, i as u32)),
             }
-            seen.insert(*p, i as u32)?;
         }
         Ok(Distinct::Yes)
     }
