@@ -1,6 +1,6 @@
 -- Lists of bodies that grow by one body at a new point.
 use Rattle.std.proofs.Common.{◌≡◌, ◌≢◌, ◌∙◌, ◌<◌, ◌≤◌, ◌+◌, ◌^◌, ℕ, suc, zero, Bool, true, false, List, [], ◌∷◌, ◌++◌, length, Option, Some, None, Result, Ok}
-use Rattle.std.proofs.Common.{Err, cond, refl, sym, arith, inl, inr, length-append, add-zero, zero-add}
+use Rattle.std.proofs.Common.{◌==◌, Err, ap, cond, eq-eqb, eqb-true, refl, sym, arith, inl, inr, length-append, add-zero, zero-add}
 use Rattle.std.specs.Result.{OnOk, is_ok}
 use Rattle.std.specs.List.{All, position_from}
 use Rattle.std.proofs.lemmas.Bool.{cases_Bool}
@@ -9,11 +9,23 @@ use Rattle.std.proofs.lemmas.List.Elements.{All-append}
 use Rattle.std.proofs.lemmas.List.Sums.{sum_by-append}
 use Rattle.std.proofs.Math.Seq.{get_or-append_seam}
 use Rattle.std.proofs.Math.Nat.{eq-or-lt_of_le}
+use Rattle.octant_code.proofs.InCube.{packed_once}
 use Rattle.octant_code.proofs.SeenPoints.{same_coordinates_refl, same_coordinates_true}
 use Rattle.octant_code.specs.Points.{AreApart, site_at}
-use Rattle.octant_code.specs.Space.{IsInCube, Site, origin, same_coordinates}
+use Rattle.octant_code.specs.Space.{IsInCube, Site, origin, packed, same_coordinates}
 use Rattle.scene_file.specs.Bodies.{AreBodies, number_at, sites_of, total_mass}
 use Rattle.scene_file.specs.declared.bodies.Body.{Body}
+
+-- points of the cube have the same packed number exactly where they have the same coordinates
+pub packed-eq : (s t : Site) → IsInCube s → IsInCube t → (packed s == packed t) ≡ same_coordinates s t
+packed-eq s t p q = elim (cases_Bool (same_coordinates s t)) [
+  | inl meet ↦ eq-eqb (packed s) (packed t) (ap packed (same_coordinates_true s t meet)) ∙ sym meet
+  | inr part ↦ elim (cases_Bool (packed s == packed t)) [
+    | inl one ↦ let same : s ≡ t = packed_once s t p q (eqb-true (packed s) (packed t) one) in
+        let here : same_coordinates s t ≡ true = rw same (same_coordinates_refl t) in cc
+    | inr two ↦ two ∙ sym part
+  ]
+]
 
 -- points that are apart are so in either order
 same_coordinates-swap : (a b : Site) → same_coordinates a b ≡ false → same_coordinates b a ≡ false

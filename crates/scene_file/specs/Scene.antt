@@ -105,11 +105,6 @@ abbrev pub Adds : List Body → List Body → Result (List Body) SceneFault → 
 Adds old new wanted (Ok done) = wanted ≡ Ok new
 Adds old new wanted (Err f) = IsFaultOf wanted f
 
--- a body was put behind the others, or memory ran out
-abbrev pub Keeps : List Body → List Body → Body → Result (Unit {0}) SceneFault → Type 0
-Keeps old new body (Ok done) = new ≡ old ++ body ∷ []
-Keeps old new body (Err f) = f ≡ fault.OutOfMemory
-
 -- what is answered are the wanted bodies, or the wanted fault
 abbrev pub Gives : Result (List Body) SceneFault → Result (List Body) SceneFault → Type 0
 Gives (Ok bodies) wanted = wanted ≡ Ok bodies

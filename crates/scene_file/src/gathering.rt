@@ -1,8 +1,12 @@
 //! The bodies of the records that were read so far.
 
+ghost use Rattle.std.specs.Prelude.{nat_eq};
+ghost use Rattle.std.specs.HashMap.{get};
+ghost use Rattle.scene_file.specs.Gathering.{Enters};
+
 use crate::bodies::{Bodies, Body};
 use crate::fault::SceneFault;
-use octant_code::{MOST_BODIES, OutOfMemory, Point};
+use octant_code::{MOST_BODIES, OutOfMemory};
 use std::alloc::Global;
 use std::collections::HashMap;
 use std::marker::Model;
@@ -10,13 +14,28 @@ use std::marker::Model;
 // The bound below which the total mass stays.
 const MASS_BOUND: u64 = 1 << 40;
 
-/// A list of bodies that grows by one record after another. It keeps the total mass and, by a map,
-/// the number of the body at each point, so that a record costs one look-up.
+/// A list of bodies that grows by one record after another. It keeps the total mass and, by a map
+/// of the packed points, the number of the body at each point, so that a record costs one look-up.
 #[derive(Drop)]
 pub struct Gathering {
     list: Vec<Body>,
     total: u64,
-    numbers: HashMap<Point, u32>,
+    numbers: HashMap<u64, u32>,
+}
+
+// Enters a number at a key, in one look-up. Where the key has one already, that stays and is told.
+fn enter(numbers: &mut HashMap<u64, u32>, key: u64, number: u32) -> Result<Option<u32>, OutOfMemory>
+    ensures { Enters (get nat_eq numbers.old) (get nat_eq numbers.new) key number result }
+{
+    match numbers.insert(key, number) {
+        Ok(None) => Ok(None),
+        Ok(Some(earlier)) => match numbers.insert(key, earlier) {
+            Ok(_) => Ok(Some(earlier)),
+            // A key that is there wants no memory.
+            Err(_) => unreachable!(),
+        },
+        Err(_) => Err(OutOfMemory),
+    }
 }
 
 impl Model for Gathering {
@@ -32,10 +51,10 @@ impl Model for Gathering {
 }
 
 impl Gathering {
-    ghost use Rattle.std.specs.Prelude.{◌≡◌, [], ◌<◌, ◌+◌, ◌^◌, IfOk, None, length};
+    ghost use Rattle.std.specs.Prelude.{◌≡◌, [], ◌<◌, ◌+◌, ◌^◌, IfOk, length};
     ghost use Rattle.octant_code.specs.Space.{IsInCube};
     ghost use Rattle.scene_file.specs.Bodies.{number_at, total_mass};
-    ghost use Rattle.scene_file.specs.Scene.{Adds, Keeps, joined};
+    ghost use Rattle.scene_file.specs.Scene.{Adds, joined, placed};
 
     /// No body, with room for so many.
     pub fn new(alloc: Global, room: usize) -> Result<Gathering, OutOfMemory>
@@ -61,33 +80,37 @@ impl Gathering {
         if total >= MASS_BOUND {
             return Err(SceneFault::MassTotal(number));
         }
-        if let Some(earlier) = self.numbers.get(&body.at) {
-            let later = self.list.len() as u32;
-            return Err(SceneFault::Coincident(number, *earlier, later));
-        }
-        self.keep(total, body)
+        self.place(number, total, body)
     }
 
-    // Puts a body behind the others that may stand there. `total` is the mass of all of them with it.
-    fn keep(&mut self, total: u64, body: &Body) -> Result<(), SceneFault>
+    // Puts a body behind the others, unless one of them is at its point. There is place for it, and
+    // `total` is the mass of all of them with it.
+    fn place(&mut self, number: u32, total: u64, body: &Body) -> Result<(), SceneFault>
         requires place { length self.old < MOST_BODIES }
         requires mass { 0 < body.now.mass }
         requires inside { IsInCube body.now.at }
         requires total { total ≡ total_mass self.old + body.now.mass }
         requires small { total < 2 ^ 40 }
-        requires free { number_at self.old body.now.at ≡ None }
-        ensures { Keeps self.old self.new body.now result }
+        ensures { Adds self.old self.new (placed number self.old body.now (number_at self.old body.now.at)) result }
     {
-        let number = self.list.len();
+        let later = self.list.len();
         if self.list.push(*body).is_err() {
             return Err(SceneFault::OutOfMemory);
         }
-        if self.numbers.insert(body.at, number as u32).is_err() {
-            self.list.truncate(number);
-            return Err(SceneFault::OutOfMemory);
+        match enter(&mut self.numbers, body.at.packed(), later as u32) {
+            Ok(None) => {
+                self.total = total;
+                Ok(())
+            }
+            Ok(Some(earlier)) => {
+                self.list.truncate(later);
+                Err(SceneFault::Coincident(number, earlier, later as u32))
+            }
+            Err(_) => {
+                self.list.truncate(later);
+                Err(SceneFault::OutOfMemory)
+            }
         }
-        self.total = total;
-        Ok(())
     }
 
     /// The bodies that were gathered.
