@@ -64,7 +64,7 @@ impl Points {
             return Ok(Distinct::TooMany);
         }
         all_in_cube(list);
-        let mut seen: HashMap<u64, u32> = HashMap::new(alloc);
+        let mut seen: HashMap<u64, u32> = HashMap::with_capacity(alloc, list.len())?;
         for (i, p) in list.iter().enumerate() {
             match seen.insert(p.packed(), i as u32)? {
                 None => {}
