@@ -2,3 +2,4 @@ pub mod BodyLists
 pub mod ReadBack
 pub mod Records
 pub mod Scenes
+pub mod Gatherings

@@ -1,5 +1,8 @@
 //! Bodies, and lists of them.
 
+ghost use Rattle.std.specs.Prelude.{◌≡◌, IfOk};
+ghost use Rattle.scene_file.specs.Bodies.{sites_of};
+
 use octant_code::{OutOfMemory, Point, Points};
 use std::alloc::Global;
 use std::marker::Model;
@@ -11,6 +14,17 @@ pub struct Body {
     pub mass: u32,
     /// Where the body is.
     pub at: Point,
+}
+
+// The points of bodies, in the order in which these stand.
+pub(crate) fn points_of(alloc: Global, bodies: &[Body]) -> Result<Vec<Point>, OutOfMemory>
+    ensures { IfOk result (λ points. points.items ≡ sites_of bodies.now) }
+{
+    let mut list = Vec::with_capacity(alloc, bodies.len())?;
+    for body in bodies {
+        list.push(body.at)?;
+    }
+    Ok(list)
 }
 
 /// At most 65,536 bodies with masses of at least 1, whose total is below 2^40, at distinct points.
@@ -68,10 +82,6 @@ impl Bodies {
     pub fn points(&self, alloc: Global) -> Result<Points, OutOfMemory>
         ensures { IfOk result (λ points. points ≡ sites_of self.now) }
     {
-        let mut list = Vec::with_capacity(alloc, self.list.len())?;
-        for body in &self.list {
-            list.push(body.at)?;
-        }
-        Ok(Points::of(list))
+        Ok(Points::of(points_of(alloc, &self.list)?))
     }
 }

@@ -1,41 +1,21 @@
 //! The bodies of the records that were read so far.
 
-ghost use Rattle.std.specs.Prelude.{nat_eq};
-ghost use Rattle.std.specs.HashMap.{get};
-ghost use Rattle.scene_file.specs.Gathering.{Enters};
-
-use crate::bodies::{Bodies, Body};
+use crate::bodies::{Bodies, Body, points_of};
 use crate::fault::SceneFault;
-use octant_code::{MOST_BODIES, OutOfMemory};
+use octant_code::{Distinct, MOST_BODIES, OutOfMemory, Points};
 use std::alloc::Global;
-use std::collections::HashMap;
 use std::marker::Model;
 
 // The bound below which the total mass stays.
 const MASS_BOUND: u64 = 1 << 40;
 
-/// A list of bodies that grows by one record after another. It keeps the total mass and, by a map
-/// of the packed points, the number of the body at each point, so that a record costs one look-up.
+/// A list of bodies, at whatever points, that grows by one record after another. Whether the points
+/// are apart is tested behind the last record: look-ups that follow one another wait for memory
+/// together, and those between records one by one, which takes more than twice as long.
 #[derive(Drop)]
 pub struct Gathering {
     list: Vec<Body>,
     total: u64,
-    numbers: HashMap<u64, u32>,
-}
-
-// Enters a number at a key, in one look-up. Where the key has one already, that stays and is told.
-fn enter(numbers: &mut HashMap<u64, u32>, key: u64, number: u32) -> Result<Option<u32>, OutOfMemory>
-    ensures { Enters (get nat_eq numbers.old) (get nat_eq numbers.new) key number result }
-{
-    match numbers.insert(key, number) {
-        Ok(None) => Ok(None),
-        Ok(Some(earlier)) => match numbers.insert(key, earlier) {
-            Ok(_) => Ok(Some(earlier)),
-            // A key that is there wants no memory.
-            Err(_) => unreachable!(),
-        },
-        Err(_) => Err(OutOfMemory),
-    }
 }
 
 impl Model for Gathering {
@@ -47,14 +27,16 @@ impl Model for Gathering {
 
     ghost view = { λ g. g.list.items };
 
-    ghost invariant = { λ g. AreGathered g.list.items g.total g.numbers };
+    ghost invariant = { λ g. AreGathered g.list.items g.total };
 }
 
 impl Gathering {
-    ghost use Rattle.std.specs.Prelude.{◌≡◌, [], ◌<◌, ◌+◌, ◌^◌, IfOk, length};
+    ghost use Rattle.std.specs.Prelude.{◌≡◌, [], ◌<◌, IfOk, OnErr};
+    ghost use Rattle.octant_code.specs.Points.{AreApart};
     ghost use Rattle.octant_code.specs.Space.{IsInCube};
-    ghost use Rattle.scene_file.specs.Bodies.{number_at, total_mass};
-    ghost use Rattle.scene_file.specs.Scene.{Adds, joined, placed};
+    ghost use Rattle.scene_file.specs.Bodies.{sites_of};
+    ghost use Rattle.scene_file.specs.Gathering.{IsPointTest, gathered};
+    ghost use Rattle.scene_file.specs.Scene.{Adds};
 
     /// No body, with room for so many.
     pub fn new(alloc: Global, room: usize) -> Result<Gathering, OutOfMemory>
@@ -63,7 +45,6 @@ impl Gathering {
         Ok(Gathering {
             list: Vec::with_capacity(alloc, room)?,
             total: 0,
-            numbers: HashMap::with_capacity(alloc, room)?,
         })
     }
 
@@ -71,7 +52,8 @@ impl Gathering {
     pub fn join(&mut self, number: u32, body: &Body) -> Result<(), SceneFault>
         requires mass { 0 < body.now.mass }
         requires inside { IsInCube body.now.at }
-        ensures { Adds self.old self.new (joined number self.old body.now) result }
+        ensures step { Adds self.old self.new (gathered number self.old body.now) result }
+        ensures kept { OnErr result (self.new ≡ self.old) }
     {
         if self.list.len() >= MOST_BODIES as usize {
             return Err(SceneFault::TooMany(number));
@@ -80,41 +62,31 @@ impl Gathering {
         if total >= MASS_BOUND {
             return Err(SceneFault::MassTotal(number));
         }
-        self.place(number, total, body)
-    }
-
-    // Puts a body behind the others, unless one of them is at its point. There is place for it, and
-    // `total` is the mass of all of them with it.
-    fn place(&mut self, number: u32, total: u64, body: &Body) -> Result<(), SceneFault>
-        requires place { length self.old < MOST_BODIES }
-        requires mass { 0 < body.now.mass }
-        requires inside { IsInCube body.now.at }
-        requires total { total ≡ total_mass self.old + body.now.mass }
-        requires small { total < 2 ^ 40 }
-        ensures { Adds self.old self.new (placed number self.old body.now (number_at self.old body.now.at)) result }
-    {
-        let later = self.list.len();
         if self.list.push(*body).is_err() {
             return Err(SceneFault::OutOfMemory);
         }
-        match enter(&mut self.numbers, body.at.packed(), later as u32) {
-            Ok(None) => {
-                self.total = total;
-                Ok(())
+        self.total = total;
+        Ok(())
+    }
+
+    /// Tests whether no two bodies are at one point. The fault names the first record whose body is
+    /// at the point of an earlier one.
+    pub fn test_points(&self, alloc: Global) -> Result<(), SceneFault>
+        ensures { IsPointTest self.now result }
+    {
+        let points = points_of(alloc, &self.list)?;
+        match Points::test(alloc, &points)? {
+            Distinct::Yes => Ok(()),
+            Distinct::Same(earlier, later) => {
+                Err(SceneFault::Coincident(later + 1, earlier, later))
             }
-            Ok(Some(earlier)) => {
-                self.list.truncate(later);
-                Err(SceneFault::Coincident(number, earlier, later as u32))
-            }
-            Err(_) => {
-                self.list.truncate(later);
-                Err(SceneFault::OutOfMemory)
-            }
+            Distinct::TooMany => unreachable!(),
         }
     }
 
-    /// The bodies that were gathered.
+    /// The bodies that were gathered, where no two are at one point.
     pub fn finish(self) -> Bodies
+        requires { AreApart (sites_of self) }
         ensures { result ≡ self }
     {
         Bodies::of(self.list)

@@ -1,9 +1,10 @@
 //! The body of one record.
 
-ghost use Rattle.std.specs.Prelude.{◌≡◌, ◌<◌, ◌≤◌, IfOk};
+ghost use Rattle.std.specs.Prelude.{◌≡◌, ◌<◌, ◌≤◌, IfOk, OnErr};
 ghost use Rattle.csv.specs.Records.{fields_of};
 ghost use Rattle.octant_code.specs.Space.{IsInCube};
-ghost use Rattle.scene_file.specs.Scene.{Adds, body_at_fields, body_from, body_of, field_number, is_body, is_no_number, with_record};
+ghost use Rattle.scene_file.specs.Gathering.{gathered_with};
+ghost use Rattle.scene_file.specs.Scene.{Adds, body_at_fields, body_from, body_of, field_number, is_body, is_no_number};
 
 use crate::bodies::Body;
 use crate::fault::SceneFault;
@@ -123,13 +124,14 @@ fn read_body(number: u32, row: &ByteRecord) -> Result<Body, SceneFault>
     body_from(number, mass, x, y, z)
 }
 
-/// Adds the body of a record, whose number is told, to those of the records before it.
+/// Adds the body of a record, whose number is told, to those of the records before it, wherever it is.
 pub fn add_record(
     gathering: &mut Gathering,
     number: u32,
     row: &ByteRecord,
 ) -> Result<(), SceneFault>
-    ensures { Adds gathering.old gathering.new (with_record number gathering.old (fields_of row.now)) result }
+    ensures step { Adds gathering.old gathering.new (gathered_with number gathering.old (fields_of row.now)) result }
+    ensures kept { OnErr result (gathering.new ≡ gathering.old) }
 {
     match read_body(number, row) {
         Ok(body) => gathering.join(number, &body),

@@ -42,9 +42,16 @@ fn read_bodies(alloc: Global, bytes: &[u8]) -> Result<Bodies, SceneFault>
         match reader.read_byte_record(&mut row) {
             Ok(true) => match add_record(&mut gathering, number, &row) {
                 Ok(()) => {}
+                // A body at the point of an earlier one comes before this fault.
+                Err(fault) => match gathering.test_points(alloc) {
+                    Ok(()) => return Err(fault),
+                    Err(first) => return Err(first),
+                },
+            },
+            Ok(false) => match gathering.test_points(alloc) {
+                Ok(()) => return Ok(gathering.finish()),
                 Err(fault) => return Err(fault),
             },
-            Ok(false) => return Ok(gathering.finish()),
             Err(error) => match error.into_kind() {
                 // A slice can't fail, but no clause of `Read` says so: it would be want of memory.
                 ErrorKind::Io(_) | ErrorKind::OutOfMemory => return Err(SceneFault::OutOfMemory),

@@ -1,13 +1,17 @@
-use Rattle.std.proofs.Common.{Bor, List, ℕ, ◌∙◌, ◌+◌, ◌-◌, ◌++◌, length, sym, refl, arith, inl, inr, Some, ◌∷◌, []}
-use Rattle.std.proofs.lemmas.List.{length-append}
+use Rattle.std.proofs.Common.{Bor, ◌≡◌, List, ℕ, ◌∙◌, ◌+◌, ◌-◌, ◌++◌, length, Err, subst, sym, refl, arith, inl, inr, Some, ◌∷◌, []}
+use Rattle.std.proofs.lemmas.List.{append-nil, append_assoc, length-append}
 use Rattle.csv.specs.Reading.{Reached, default_config, records_from, strip_bom}
 use Rattle.csv.specs.Records.{fields_of}
 use Rattle.csv.specs.declared.parser.State.TheVariants as st
 use Rattle.csv.proofs.ReadFacts.{rows-end, rows-more}
-use Rattle.scene_file.specs.Scene.{bodies_after, records_of, with_record}
+use Rattle.scene_file.specs.Gathering.{IsPointTest, gathered_with}
+use Rattle.scene_file.specs.declared.bodies.Body.{Body}
+use Rattle.scene_file.specs.Scene.{bodies_after, records_of}
 use Rattle.scene_file.proofs.Records.{count, records_front, records_all, strip_bom_short}
-use Rattle.scene_file.proofs.Scenes.{accepted_more, fault_is, refused_at}
+use Rattle.scene_file.proofs.Gatherings.{barred_at, of_more, of_none, told_first}
+use Rattle.scene_file.proofs.Scenes.{fault_is, refused_at}
 use Rattle.scene_file.proofs.scene.read_bodies.Goals as goal
+use Rattle.scene_file.proofs.scene.read_bodies.Goals.{In-Err-add_record, In-Ok-false}
 
 pub loop-number-init : goal.loop-number-init
 unfolding Reached bodies_after
@@ -24,7 +28,7 @@ loop-number-init c =
       made.source,
       [],
       (sym made.state, refl),
-      refl,
+      of_none,
       refl,
     )
 
@@ -44,30 +48,61 @@ loop-number-preserved c =
       more.1,
       inv.6 ++ fields ∷ [],
       more.2,
-      accepted_more inv.6 fields c.loop-number.gathering c.add_record.new.gathering c.loop-number.number inv.8 inv.9 c.in-Ok.ensures,
+      of_more inv.6 fields c.loop-number.gathering c.add_record.new.gathering c.loop-number.number inv.8 inv.9 c.in-Ok.ensures.step,
       rw (length-append, inv.9) refl,
     )
 
-pub returns-in-Err-add_record : goal.returns-in-Err-add_record
-returns-in-Err-add_record c =
+-- the records are those before, the one that has a fault, and others
+whole : (c : In-Err-add_record) → (rest : List (List (List ℕ)))
+    × (records_of c.args.bytes.now ≡ c.loop-number.invariant.6 ++ fields_of c.read_byte_record.new.row ∷ [] ++ rest)
+whole c =
     let inv = c.loop-number.invariant in
     let read = rw c.in-Ok-true.field-0-test at (c.in-Ok-true.ensures.reads inv.0 inv.1) in
     let fields = fields_of c.read_byte_record.new.row in
     let more = rows-more (λ (s : Bor (List ℕ)). Some s.now) c.loop-number.reader c.read_byte_record.new.self fields default_config st.StartRecord
-    (strip_bom c.args.bytes.now) inv.4 inv.6 inv.2 inv.5 inv.7 read in
-    let whole = records_front default_config c.read_byte_record.new.self.state (strip_bom c.args.bytes.now) more.0 (inv.6 ++ fields ∷ []) more.2 in
-    let all = records_of c.args.bytes.now in
-    let rest = records_from default_config (length (strip_bom c.args.bytes.now) + 1 - length (inv.6 ++ fields ∷ [])) c.read_byte_record.new.self.state more.0 in
-    fault_is c.in-Err-add_record.fault (with_record c.loop-number.number c.loop-number.gathering fields) (bodies_after all 1 []) c.in-Err-add_record.ensures
-    (refused_at all inv.6 rest fields c.loop-number.gathering c.loop-number.number c.in-Err-add_record.fault whole inv.8 inv.9)
+    (strip_bom c.args.bytes.now) inv.4 inv.6 inv.2 inv.5 inv.7 read in (
+      records_from default_config (length (strip_bom c.args.bytes.now) + 1 - length (inv.6 ++ fields ∷ [])) c.read_byte_record.new.self.state more.0,
+      records_front default_config c.read_byte_record.new.self.state (strip_bom c.args.bytes.now) more.0 (inv.6 ++ fields ∷ []) more.2,
+    )
 
-pub returns-in-Ok-false : goal.returns-in-Ok-false
-returns-in-Ok-false c =
+pub returns-in-Ok-test_points : goal.returns-in-Ok-test_points
+returns-in-Ok-test_points c =
+    let inv = c.loop-number.invariant in
+    let fields = fields_of c.read_byte_record.new.row in
+    let all = records_of c.args.bytes.now in
+    let bodies = c.loop-number.gathering in
+    let f = c.in-Err-add_record.fault in
+    let (rest, is_whole) = whole (goal.at.returns-in-Ok-test_points c).In-Err-add_record in
+    let apart = rw c.in-Err-add_record.ensures.kept at c.in-Ok-test_points.ensures in
+    fault_is f (gathered_with c.loop-number.number bodies fields) (bodies_after all 1 []) c.in-Err-add_record.ensures.step
+    (λ e. refused_at all inv.6 rest fields bodies c.loop-number.number f is_whole (inv.8.accepted apart) inv.9 (barred_at c.loop-number.number bodies fields f e))
+
+pub returns-in-Err-test_points : goal.returns-in-Err-test_points
+returns-in-Err-test_points c =
+    let inv = c.loop-number.invariant in
+    let fields = fields_of c.read_byte_record.new.row in
+    let (rest, is_whole) = whole (goal.at.returns-in-Err-test_points c).In-Err-add_record in
+    told_first (records_of c.args.bytes.now) inv.6 (fields ∷ rest) c.loop-number.gathering c.in-Err-test_points.first
+    (is_whole ∙ append_assoc inv.6 (fields ∷ []) rest) inv.8
+    (subst (λ (v : List Body). IsPointTest v (Err c.in-Err-test_points.first)) c.in-Err-add_record.ensures.kept c.in-Err-test_points.ensures)
+
+-- all records are those before the end
+ended : (c : In-Ok-false) → records_of c.args.bytes.now ≡ c.loop-number.invariant.6
+ended c =
     let inv = c.loop-number.invariant in
     let read = rw c.in-Ok-false.field-0-test at (c.in-Ok-false.ensures.reads inv.0 inv.1) in
     let none = rows-end (λ (s : Bor (List ℕ)). Some s.now) c.loop-number.reader c.read_byte_record.new.self _ default_config inv.4 inv.2 inv.5 read in
-    let whole = records_all default_config c.loop-number.reader.state (strip_bom c.args.bytes.now) inv.4 inv.6 inv.7 none in
-    rw (whole, c.finish.ensures) inv.8
+    records_all default_config c.loop-number.reader.state (strip_bom c.args.bytes.now) inv.4 inv.6 inv.7 none
+
+pub returns-in-Ok-test_points-2 : goal.returns-in-Ok-test_points-2
+returns-in-Ok-test_points-2 c =
+    rw (ended (goal.at.returns-in-Ok-test_points-2 c).In-Ok-false, c.finish.ensures) (c.loop-number.invariant.8.accepted c.in-Ok-test_points-2.ensures)
+
+pub returns-in-Err-test_points-2 : goal.returns-in-Err-test_points-2
+returns-in-Err-test_points-2 c =
+    let inv = c.loop-number.invariant in
+    told_first (records_of c.args.bytes.now) inv.6 [] c.loop-number.gathering c.in-Err-test_points-2.fault
+    (ended (goal.at.returns-in-Err-test_points-2 c).In-Ok-false ∙ sym (append-nil inv.6)) inv.8 c.in-Err-test_points-2.ensures
 
 pub unreachable-requires-2 : goal.unreachable-requires-2
 unreachable-requires-2 c =
