@@ -55,7 +55,8 @@ fn short_value(bytes: &[u8]) -> Option<u64>
 
 /// The number of any number of bytes, or 2^64 where it is more, where all are digits.
 fn capped_value(bytes: &[u8]) -> Option<u128>
-    ensures { result ≡ (if list_all is_ascii_digit bytes.now then Some (min (digits_value 10 bytes.now) (2 ^ 64)) else None) }
+    ensures { result ≡ (if list_all is_ascii_digit bytes.now then Some (min (digits_value 10 bytes.now) (2 ^ 64))
+        else None) }
 {
     let mut value: u128 = 0;
     for byte in bytes {

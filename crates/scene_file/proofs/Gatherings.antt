@@ -50,7 +50,8 @@ pub barred_at : (number : ℕ) (bodies : List Body) (fields : List (List ℕ)) (
     → with_record number bodies fields ≡ Err f
 barred_at number bodies fields f e = by_body (body_of number fields) refl e
   where
-    by_body : (r : Result Body SceneFault) → body_of number fields ≡ r → then_with (gathered number bodies) r ≡ Err f → with_record number bodies fields ≡ Err f
+    by_body : (r : Result Body SceneFault) → body_of number fields ≡ r → then_with (gathered number bodies) r ≡ Err f
+        → with_record number bodies fields ≡ Err f
     by_body (Ok body) is e = rw is (barred (nat_le 65536 (length bodies)) (nat_le (2 ^ 40) (total_mass bodies + body.mass)) (fault.TooMany number)
         (fault.MassTotal number) f (bodies ++ body ∷ []) (placed number bodies body (number_at bodies body.at)) e)
     by_body (Err g) is e = rw is e

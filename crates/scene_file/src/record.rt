@@ -4,7 +4,8 @@ ghost use Rattle.std.specs.Prelude.{◌≡◌, ◌<◌, ◌≤◌, IfOk, OnErr};
 ghost use Rattle.csv.specs.Records.{fields_of};
 ghost use Rattle.octant_code.specs.Space.{IsInCube};
 ghost use Rattle.scene_file.specs.Gathering.{gathered_with};
-ghost use Rattle.scene_file.specs.Scene.{Adds, body_at_fields, body_from, body_of, field_number, is_body, is_no_number};
+ghost use Rattle.scene_file.specs.Scene.{Adds, body_at_fields, body_from, body_of};
+ghost use Rattle.scene_file.specs.Scene.{field_number, is_body, is_no_number};
 
 use crate::bodies::Body;
 use crate::fault::SceneFault;

@@ -74,8 +74,9 @@ returns-in-Ok-test_points c =
     let f = c.in-Err-add_record.fault in
     let (rest, is_whole) = whole (goal.at.returns-in-Ok-test_points c).In-Err-add_record in
     let apart = rw c.in-Err-add_record.ensures.kept at c.in-Ok-test_points.ensures in
+    let accepted = inv.8.accepted apart in
     fault_is f (gathered_with c.loop-number.number bodies fields) (bodies_after all 1 []) c.in-Err-add_record.ensures.step
-    (λ e. refused_at all inv.6 rest fields bodies c.loop-number.number f is_whole (inv.8.accepted apart) inv.9 (barred_at c.loop-number.number bodies fields f e))
+    (λ e. refused_at all inv.6 rest fields bodies c.loop-number.number f is_whole accepted inv.9 (barred_at c.loop-number.number bodies fields f e))
 
 pub returns-in-Err-test_points : goal.returns-in-Err-test_points
 returns-in-Err-test_points c =
