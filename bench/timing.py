@@ -7,6 +7,23 @@ import time
 
 TOP = os.path.dirname(os.path.dirname(os.path.realpath(__file__)))
 
+# The scenes that are timed, by the programs that draw them. The seed is always 1.
+SHAPES = {
+    "uniform": ["tools/make-uniform"],
+    "corner": ["tools/make-uniform", "--corner"],
+    "Plummer": ["tools/make-plummer"],
+    "close pairs": ["tools/make-pairs"],
+}
+
+
+def make_scene(folder, shape, count):
+    """Writes a scene to a file in a folder, and gives the file."""
+    file = os.path.join(folder, "%s-%d.csv" % (shape.replace(" ", "-"), count))
+    maker = SHAPES[shape]
+    with open(file, "wb") as into:
+        subprocess.run([os.path.join(TOP, maker[0]), *maker[1:], str(count), "1"], stdout=into, check=True)
+    return file
+
 
 def program_of(given):
     """The program to time: the one that was given, or else the repository's, which is built where it has to be."""
@@ -40,13 +57,18 @@ def machine():
     return "%d cores of %s; load at the end %.1f" % (len(os.sched_getaffinity(0)), name, os.getloadavg()[0])
 
 
-def rounds(program, scenes, runs):
+def print_line(figure, value, unit):
+    """One figure as a line that bench/all reads: its name, its value and its unit between tabs."""
+    print("%s\t%.2f\t%s" % (figure, value, unit))
+
+
+def rounds(program, scenes, runs, words=("tree",)):
     """The times of each scene, a file and the status that is wanted, run in rounds: each scene once a round, so that a
     busy moment of the machine hits all alike. A first round is not counted."""
     times = {it: [] for it in scenes}
     for warm in (True, *[False] * runs):
         for it, (file, wanted) in scenes.items():
-            taken = milliseconds(program, file, wanted)
+            taken = milliseconds(program, file, wanted, words)
             if not warm:
                 times[it].append(taken)
     return times
