@@ -1,6 +1,7 @@
 -- What the options of a command line choose.
 use Rattle.std.specs.Prelude.{ℕ, ◌≤◌}
 use Rattle.bh_model.specs.Plans.{TreePlan}
+use Rattle.octant_code.specs.declared.limits.TheConstants.{MOST_BODIES}
 use Rattle.nbody_options.specs.declared.options.Command.{Command}
 use Rattle.nbody_options.specs.declared.options.Made.{Made}
 use Rattle.nbody_options.specs.declared.options.ProbeChoice.{ProbeChoice}
@@ -17,4 +18,4 @@ pub record Choices : Type 0 where
 pub record AreChoices (steps : ℕ) (made : Made) : Type 0 where
   pub steps_are_positive : 1 ≤ steps
   pub steps_fit : steps ≤ 10000
-  pub count_fits : made.count ≤ 65536
+  pub count_fits : made.count ≤ MOST_BODIES

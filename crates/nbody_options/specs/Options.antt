@@ -4,6 +4,7 @@ use Rattle.std.specs.Prelude.{option_and_then, nat_le, if◌then◌else◌, ⊤}
 use Rattle.std.specs.Result.{result_ok}
 use Rattle.std.specs.Str.{bytes_eq}
 use Rattle.octant_code.specs.Decimal.{decimal_read}
+use Rattle.octant_code.specs.declared.limits.TheConstants.{MOST_BODIES}
 use Rattle.nbody_options.specs.Plain.{Given, Text, given_by, value_of}
 use Rattle.bh_model.specs.Plans.{TreePlan}
 use Rattle.bh_model.specs.Pulls.{PullLaw}
@@ -18,8 +19,8 @@ use Rattle.nbody_options.specs.declared.options.OptionsFault.{OptionsFault}
 use Rattle.nbody_options.specs.declared.options.OptionsFault.TheVariants as fault
 use Rattle.nbody_options.specs.declared.options.ProbeChoice.{ProbeChoice}
 use Rattle.nbody_options.specs.declared.options.ProbeChoice.TheVariants as probe
-use Rattle.nbody_options.specs.declared.options.Shape.{Shape}
-use Rattle.nbody_options.specs.declared.options.Shape.TheVariants as shape
+use Rattle.scene_file.specs.declared.made.Shape.{Shape}
+use Rattle.scene_file.specs.declared.made.Shape.TheVariants as shape
 
 -- ---- the rule of each value
 
@@ -107,7 +108,7 @@ made_from _ _ _ = None
 -- the scene to be made of the values, each by its rule or its default
 abbrev pub made_of : (Text → Option Text) → Option Made
 made_of value =
-    made_from (given_or 1000 (decimal_from 0 65536) (value (codes "count"))) (given_or 0 (decimal_from 0 (2 ^ 64 - 1)) (value (codes "seed")))
+    made_from (given_or 1000 (decimal_from 0 MOST_BODIES) (value (codes "count"))) (given_or 0 (decimal_from 0 (2 ^ 64 - 1)) (value (codes "seed")))
     (given_or shape.Uniform shape_of (value (codes "shape")))
 
 -- the choices, where each part is there

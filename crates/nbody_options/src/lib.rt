@@ -6,5 +6,6 @@ mod plain;
 mod read;
 mod values;
 
-pub use options::{Command, Kind, Made, Options, OptionsFault, ProbeChoice, Shape};
+pub use options::{Command, Kind, Made, Options, OptionsFault, ProbeChoice};
 pub use read::read_options;
+pub use scene_file::Shape;

@@ -1,6 +1,7 @@
 //! What the words of a command line choose.
 
 use bh_model::Plan;
+use scene_file::Shape;
 use std::marker::Model;
 use thiserror::Error;
 
@@ -37,15 +38,6 @@ pub enum ProbeChoice {
     All,
     /// The probes of one kind.
     Only(Kind),
-}
-
-/// The shape of a scene that is made.
-#[derive(Clone, Copy, Debug, PartialEq, Eq)]
-pub enum Shape {
-    /// Bodies all over the cube.
-    Uniform,
-    /// Bodies crowded in a corner of the cube.
-    Corner,
 }
 
 /// The scene that a trial makes: how many bodies, the seed of their numbers, and their shape.

@@ -5,12 +5,13 @@ ghost use Rattle.clap.specs.Matches.{first_value, found_of};
 ghost use Rattle.nbody_options.specs.Options.{builder_of, choices_of, command_of, decimal_from, given_or, law_of, made_of, plan_of, probe_of, shape_of, theta_at, theta_of};
 ghost use Rattle.bh_model.specs.declared.plan.Builder.TheVariants as builder;
 ghost use Rattle.nbody_options.specs.declared.options.ProbeChoice.TheVariants as probe;
-ghost use Rattle.nbody_options.specs.declared.options.Shape.TheVariants as shape;
+ghost use Rattle.scene_file.specs.declared.made.Shape.TheVariants as shape;
 
-use crate::options::{Command, Kind, Made, Options, ProbeChoice, Shape};
+use crate::options::{Command, Kind, Made, Options, ProbeChoice};
 use bh_model::{Builder, Law, Plan};
 use clap::ArgMatches;
-use octant_code::read_decimal;
+use octant_code::{MOST_BODIES, read_decimal};
+use scene_file::Shape;
 
 fn command_of(word: Option<&str>) -> Option<Command>
     ensures { result ≡ option_and_then command_of (option_map (λ s. s.now) word.entry) }
@@ -167,9 +168,9 @@ fn plan_of(matches: &ArgMatches) -> Option<Plan>
 
 fn made_of(matches: &ArgMatches) -> Option<Made>
     ensures value { result ≡ made_of (first_value (found_of matches.now)) }
-    ensures within { IfSome result (λ m. m.count ≤ 65536) }
+    ensures within { IfSome result (λ m. m.count ≤ MOST_BODIES) }
 {
-    let count = decimal_or(1000, 0, 65_536, matches.get_str("count"));
+    let count = decimal_or(1000, 0, u64::from(MOST_BODIES), matches.get_str("count"));
     let seed = decimal_or(0, 0, u64::MAX, matches.get_str("seed"));
     let shape = shape_of(matches.get_str("shape"));
     match (count, seed, shape) {

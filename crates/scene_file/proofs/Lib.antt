@@ -3,3 +3,4 @@ pub mod ReadBack
 pub mod Records
 pub mod Scenes
 pub mod Gatherings
+pub mod Making

@@ -4,12 +4,14 @@
 mod bodies;
 mod fault;
 mod gathering;
+mod made;
 mod record;
 mod scene;
 mod text;
 
 pub use bodies::{Bodies, Body};
 pub use fault::SceneFault;
+pub use made::{MULTIPLIER, Shape, made_scene};
 pub use scene::{MOST_BYTES, Scene, read_scene};
 pub use text::scene_text;
 

@@ -57,3 +57,11 @@ fn the_text_of_a_scene_has_its_bodies(rt: HostRuntime) {
     assert_eq!(rt; again.bodies.len(), 2);
     assert!(rt; is_body(&again.bodies, 1, 4_294_967_295, 2_097_151, 0, 1));
 }
+
+#[test]
+fn a_body_of_a_made_scene_lies_where_its_code_says(rt: HostRuntime) {
+    let corner = made_scene(rt.alloc(), 2, 0, Shape::Corner).expect(&rt, "a scene");
+    assert_eq!(rt; corner.bodies.len(), 2);
+    assert!(rt; is_body(&corner.bodies, 0, 1, 0, 0, 0));
+    assert!(rt; is_body(&corner.bodies, 1, 2, 20_281, 29_658, 14_097));
+}
