@@ -1,0 +1,6 @@
+mod Counts
+mod After
+mod Looking
+mod Storing
+mod Publishing
+mod Quiet
