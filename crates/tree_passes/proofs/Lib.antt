@@ -4,3 +4,7 @@ mod Looking
 mod Storing
 mod Publishing
 mod Quiet
+mod Parting
+mod FreeSteps
+mod LockedRule
+mod LockSteps
