@@ -15,7 +15,7 @@ use Rattle.tree_passes.specs.Passes.{after_publication, given_part, IsCell, join
 use Rattle.tree_passes.specs.Rule.{Free, Kept}
 use Rattle.tree_passes.specs.Looks.{Learns}
 use Rattle.tree_passes.specs.Locks.{CellsLock, IsLock, RootsLock}
-use Rattle.tree_passes.specs.Keeps.{IsKeptByJoins, IsKeptByQuiet, IsKeptBySplits}
+use Rattle.tree_passes.proofs.Keeps.{IsKeptByJoins, IsKeptByQuiet, IsKeptBySplits}
 use Rattle.tree_passes.specs.Plays.{exchanged, IsReadyFor, Mine}
 use Rattle.tree_passes.proofs.After.{reviewed, set_read}
 use Rattle.tree_passes.proofs.Looking.{answer, same_key, there}

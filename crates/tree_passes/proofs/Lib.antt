@@ -3,8 +3,11 @@ mod After
 mod Looking
 mod Storing
 mod Publishing
-mod Quiet
 mod Parting
+mod Keeps
 mod FreeSteps
 mod LockedRule
+mod BothRules
+mod Quiet
 mod LockSteps
+mod Drawing

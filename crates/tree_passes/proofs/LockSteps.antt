@@ -41,7 +41,7 @@ not_under i v w (OfChild c k l g h) (RootsLock d) e = omega arith
 not_under i v w (OfChild c k l g h) (CellsLock d f) e = omega arith
 
 -- nor is it the pool word
-not_pool : (w : ℕ) → IsLock w → POOL_PLACE ≢ w
+pub not_pool : (w : ℕ) → IsLock w → POOL_PLACE ≢ w
 not_pool w (RootsLock d) e = omega arith
 not_pool w (CellsLock d f) e = omega arith
 

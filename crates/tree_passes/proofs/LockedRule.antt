@@ -12,7 +12,7 @@ use Rattle.tree_passes.specs.Opening.{Opening}
 use Rattle.tree_passes.specs.Passes.{given_part, IsCell, joined, kept_part, spent}
 use Rattle.tree_passes.specs.Rule.{Kept}
 use Rattle.tree_passes.specs.Locks.{Holds, IsLock, Locked}
-use Rattle.tree_passes.specs.Keeps.{IsKeptByJoins, IsKeptByQuiet, IsKeptBySplits, IsQuiet}
+use Rattle.tree_passes.proofs.Keeps.{IsKeptByJoins, IsKeptByQuiet, IsKeptBySplits, IsQuiet}
 use Rattle.tree_passes.proofs.Counts.{sum_of-set, times-append, times-without_all}
 use Rattle.tree_passes.proofs.After.{each_set}
 use Rattle.tree_passes.proofs.Parting.{each_join, each_split, join_total, kept_join, kept_split, split_total, was_there}

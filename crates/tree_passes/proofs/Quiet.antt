@@ -1,4 +1,4 @@
--- Steps that publish nothing and touch no lock, under any rule that keeps quiet steps.
+-- Steps that publish nothing and touch no lock, under both rules.
 use Rattle.std.proofs.Common.{◌≡◌, ◌≢◌, ℕ, Bool, true, false, ◌<◌, ◌≤◌, ◌⊎◌, List, ◌∷◌, get_or, set, sym, refl, ap, ◌∙◌, subst, inl, inr, arith, length-set, get_or-set_other}
 use mathlib.Core.Option.{none, some}
 use lib.ListN.{get_elem?}
@@ -11,14 +11,17 @@ use Rattle.bh_model.proofs.Equal.{same_or_not}
 use Rattle.tree_rule.specs.Words.{at_of, body_word, child_place}
 use Rattle.tree_rule.proofs.Laws.{ACell, NoBody, OneBody, WordIs, word_is}
 use Rattle.tree_passes.specs.declared.view.TheConstants.{POOL_PLACE, ROW_WORDS}
+use Rattle.tree_passes.specs.declared.view.Told.{Told}
 use Rattle.tree_passes.specs.declared.view.View.{View}
 use Rattle.tree_passes.specs.Counting.{times}
-use Rattle.tree_passes.specs.Opening.{Opening}
+use Rattle.tree_passes.specs.Opening.{Opening, opening_of}
 use Rattle.tree_passes.specs.Passes.{IsBody, Knows, KnowsPlace}
 use Rattle.tree_passes.specs.Rule.{Kept}
 use Rattle.tree_passes.specs.Looks.{Looked, Sought}
 use Rattle.tree_passes.specs.Locks.{CellsLock, IsLock, RootsLock}
-use Rattle.tree_passes.specs.Keeps.{IsKeptByQuiet, IsQuiet}
+use Rattle.tree_passes.specs.Rules.{RuleOf}
+use Rattle.tree_passes.proofs.Keeps.{IsKeptByQuiet, IsQuiet}
+use Rattle.tree_passes.proofs.BothRules.{kept_of, quiet_of}
 use Rattle.tree_passes.specs.Plays.{Mine, looked, read, sought, wrote}
 use Rattle.tree_passes.proofs.Counts.{same-ne}
 use Rattle.tree_passes.proofs.After.{SameLists, reviewed, set_read}
@@ -45,7 +48,19 @@ pub record SameView (v w : View) : Type 0 where
   pub under : w.under ≡ v.under
   pub quota : w.quota ≡ v.quota
 
-module _ (o : Opening) (R : State (Unit {0}) View → Type 0) (kept : (s : State (Unit {0}) View) → R s → Kept o s) (quiet : IsKeptByQuiet o R) where
+module _ (k : Told) where
+  abbrev o : Opening
+  o = opening_of k
+
+  abbrev R : State (Unit {0}) View → Type 0
+  R = RuleOf k.writing o
+
+  kept : (s : State (Unit {0}) View) → R s → Kept o s
+  kept = kept_of k.writing o
+
+  quiet : IsKeptByQuiet o R
+  quiet = quiet_of k.writing o
+
   -- a word is read
   reread : (s : State (Unit {0}) View) (holds : R s) (i id : ℕ) (me : Mine) (w : View) → get_elem? s.views id ≡ some me.0 → SameView me.0 w
       → Knows o s.words (kept s holds).cells (kept s holds).bodies w → R (stepped s i (get_or s.words i 0) id me.1 w keeps)

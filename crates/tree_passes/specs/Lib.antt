@@ -4,7 +4,7 @@ pub mod Passes
 pub mod Rule
 pub mod Looks
 pub mod Locks
-pub mod Keeps
+pub mod Rules
 pub mod Plays
 
 

@@ -51,10 +51,19 @@ pub struct View {
     pub body_notes: LinkedList<BodyNote>,
 }
 
-/// What a table is told when it is made: the points, the words of the start, the bodies that are to
-/// be put in, and the cells and the quota of the first pass.
+/// How the published words of a table are written: by single exchanges, and then no lock is ever set,
+/// or by the pass that holds the word's lock.
+#[derive(Clone, Copy, Debug, PartialEq, Eq)]
+pub enum Writing {
+    ByExchange,
+    UnderLocks,
+}
+
+/// What a table is told when it is made: how its published words are written, the points, the words
+/// of the start, the bodies that are to be put in, and the cells and the quota of the first pass.
 #[derive(Drop)]
 pub struct Told {
+    pub writing: Writing,
     pub points: Snapshot<Points>,
     pub words: Snapshot<Vec<u64>>,
     pub todo: Snapshot<Vec<u32>>,
