@@ -15,7 +15,7 @@ use Rattle.tree_rule.specs.Flat.{IsShared, StandsFor}
 use Rattle.tree_rule.specs.Words.{at_of, body_word, cell_word, child_place, key_place}
 
 -- a body of the cube and of an octant of it is in the octant's cube
-octant_under : (s : Site) (key level a : ℕ) → key ≡ key_of s level → a ≡ octant_of s level → 8 * key + a ≡ key_of s (level + 1)
+pub octant_under : (s : Site) (key level a : ℕ) → key ≡ key_of s level → a ≡ octant_of s level → 8 * key + a ≡ key_of s (level + 1)
 octant_under s key level a k o = ap (λ y. 8 * y + a) k ∙ ap (λ y. 8 * key_of s level + y) o ∙ sym (ap (key_of s) (add-one level) ∙ key-suc s level)
 
 -- two bodies of one octant of the cube are in the octant's cube
@@ -34,7 +34,7 @@ pair_deeper sites x n key level a rule pair o r =
     }
 
 -- the cube of a pair is shared by both
-pair_cube : (sites : List Site) (x n key level : ℕ) → ArePair sites x n key level → IsShared (site_at sites) (IsOneOf x n) key
+pub pair_cube : (sites : List Site) (x n key level : ℕ) → ArePair sites x n key level → IsShared (site_at sites) (IsOneOf x n) key
 pair_cube sites x n key level pair =
     subst (λ (y : ℕ). IsShared (site_at sites) (IsOneOf x n) y) (sym pair.n_under)
     (pair_shares (site_at sites) x n level (omega (arith, pair.shallow)) pair.differ (sym pair.x_under ∙ pair.n_under))

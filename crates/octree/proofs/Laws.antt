@@ -6,6 +6,8 @@ use Rattle.bh_model.specs.Trees.{Tree, order}
 use Rattle.octree.specs.Spot.{Spot, child_under, tree_under}
 use Rattle.octree.specs.Subtree.{IsBodyAt, IsCellAt, IsChildOf}
 pub use Rattle.octree.proofs.Subtrees.{cell_height, child_height, child_octree}
+-- two bodies in one cube
+pub use Rattle.octree.proofs.Chains.{octant_under, pair_cube, pair_deeper}
 
 -- the body of a subtree of one body
 pub top_body_inside : (s : Spot) (n : ℕ) → IsBodyAt s n → IsIn (order (tree_under s)) n

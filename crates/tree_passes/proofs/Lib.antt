@@ -11,3 +11,4 @@ mod BothRules
 mod Quiet
 mod LockSteps
 mod Drawing
+mod Made

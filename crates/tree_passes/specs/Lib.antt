@@ -6,6 +6,7 @@ pub mod Looks
 pub mod Locks
 pub mod Rules
 pub mod Plays
+pub mod Making
 
 
 

@@ -3,11 +3,14 @@
 use octant_code::{Point, Points};
 use std::collections::LinkedList;
 use std::snapshot::Snapshot;
-use tree_rule::{BodyNote, CellNote, FIRST_PLACE, LOCK_PLACE};
+use tree_rule::{BodyNote, CellNote};
 
-/// How many words of a cell a pass writes before it publishes the cell: those of its eight children,
-/// and its key behind them.
-pub const ROW_WORDS: usize = LOCK_PLACE - FIRST_PLACE;
+/// The number of a cell's key among the words that a pass writes of it: those of its eight children
+/// are 0 to 7.
+pub const KEY_PART: u32 = 8;
+
+/// How many words of a cell a pass writes before it publishes the cell.
+pub const ROW_WORDS: u32 = KEY_PART + 1;
 
 /// The place of the root word's lock.
 pub const ROOT_LOCK: usize = 1;
