@@ -88,7 +88,7 @@ exchanges o slots id me i key old new cells bodies place r s f len at small =
       (refl, λ other q. ((λ _. refl), (λ n. absurd (n hit)))),
     ))
     (λ (miss : x ≢ old).
-    let a = answer o s h id v at i key place in (
+    let a = answer o s h id v at i key (there o s h id v at i key place) in (
       a.view,
       keeps,
       tt,
@@ -105,7 +105,7 @@ exchanges o slots id me i key old new cells bodies place r s f len at small =
         refl,
         λ other q. (
           (λ e. absurd (miss e)),
-          (λ _. subst (λ (z : ℕ). Learns v i z x a.view) (same_key o s h id v at i key place other q) a.learns),
+          (λ _. subst (λ (z : ℕ). Learns v i z x a.view) (same_key o s h id v at i key (there o s h id v at i key place) other q) a.learns),
         ),
       ),
     ))

@@ -12,3 +12,4 @@ mod Quiet
 mod LockSteps
 mod Drawing
 mod Made
+mod Between

@@ -209,9 +209,9 @@ looks_under o slots id me i key w place lock mine s f len at small =
     let v = me.0 in
     let h = f.kept in
     let value : ℕ = get_or s.words i 0 in
-    let z = after_load o s h id v at i key place in
+    let z = after_load o s h id v at i key (there o s h id v at i key place) in
     let x = record z { under = (i, value) ∷ v.under } in
-    let k = knows_load o s h id v at i key place in (
+    let k = knows_load o s h id v at i key (there o s h id v at i key place) in (
       x,
       keeps,
       tt,
@@ -254,7 +254,7 @@ looks_under o slots id me i key w place lock mine s f len at small =
         refl,
         λ other q. record {
           plain = z;
-          looked = subst (λ (y : ℕ). Looked v i y value z) (same_key o s h id v at i key place other q) (looked_load o s h id v at i key place);
+          looked = subst (λ (y : ℕ). Looked v i y value z) (same_key o s h id v at i key (there o s h id v at i key place) other q) (looked_load o s h id v at i key (there o s h id v at i key place));
           view = refl;
         },
       ),

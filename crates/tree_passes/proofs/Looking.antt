@@ -22,7 +22,7 @@ use Rattle.tree_passes.specs.Counting.{times, Has}
 use Rattle.tree_passes.specs.Opening.{Opening, all_bodies, start_bodies}
 use Rattle.tree_passes.specs.Passes.{body_note, cell_note, IsBody, IsCell, Knows, KnowsPlace, loaded, Met, noted}
 use Rattle.tree_passes.specs.Rule.{Kept}
-use Rattle.tree_passes.specs.Looks.{FoundBody, FoundCell, IsOther, Learns, Looked}
+use Rattle.tree_passes.specs.Looks.{FoundBody, FoundCell, IsOther, Learns, Looked, Tells}
 use Rattle.tree_passes.proofs.Counts.{sum_of-add, sum_of_one, times_in}
 use Rattle.tree_passes.proofs.After.{known_place}
 
@@ -46,6 +46,20 @@ found_cell_on v w key d p b t l f = record {
   inside = let q = f.inside in omega arith;
 }
 
+pub tells_on : (v w : View) (key value : ℕ) → w.points ≡ v.points → w.bodies ≡ v.bodies → w.todo ≡ v.todo → w.done ≡ v.done → w.seen ≡ v.seen
+    → length w.memory ≡ length v.memory → Tells v key value → Tells w key value
+tells_on v w key value p b t d s l h =
+    let met : (x : ℕ) → Met w x → Met v x = λ x m.
+    let e = ap (times x) d in let f = ap (times x) s in let n : 1 ≤ times x w.done + times x w.seen = m in omega arith in
+    let under : (x : ℕ) → IsUnder key (site_at w.points x) → IsUnder key (site_at v.points x) =
+    λ x u. subst (λ (z : List Site). IsUnder key (site_at z x)) p u in
+    record {
+      nobody = λ e x m u. h.nobody e x (met x m) (under x u);
+      other = λ y e x m u. h.other y e x (met x m) (under x u);
+      body = λ x e. found_body_on v w key x p t (h.body x e);
+      cell = λ c e. found_cell_on v w key c p b t l (h.cell c e);
+    }
+
 -- what is learnt by an exchange is learnt by a load, which is counted
 pub learns_loaded : (v : View) (i key value : ℕ) (w : View) (l : Learns v i key value w)
     → Looked v i key value (noted (loaded v key value) l.cell_notes l.body_notes)
@@ -55,11 +69,10 @@ learns_loaded v i key value w l = record {
   view = refl;
   cells_stay = l.cells_stay;
   bodies_stay = l.bodies_stay;
-  nobody = l.nobody;
-  other = l.other;
+  body_noted = l.body_noted;
+  cell_noted = l.cell_noted;
   still = l.still;
-  body = λ x e. let f = l.body x e in (f.0, found_body_on v (loaded v key value) key x refl refl f.1);
-  cell = λ d e. let f = l.cell d e in (f.0, found_cell_on v (loaded v key value) key d refl refl refl refl f.1);
+  tells = tells_on v (loaded v key value) key value refl refl refl refl refl refl l.tells;
 }
 
 -- a body of the tree is in no todo list
@@ -111,33 +124,36 @@ met_body o s h id v at x m = dite (ℕ_discrete (times x v.seen) 0)
     ))
     (λ some_there. (h.knows id v at).seen x (omega arith))
 
+-- a word that the pass knows to be published is
+pub there : (o : Opening) (s : State (Unit {0}) View) (h : Kept o s) (id : ℕ) (v : View) → get_elem? s.views id ≡ some v → (i key : ℕ) → KnowsPlace v i key
+    → IsPlaceOf (at_of s.words) 0 1 (IsCell o h.cells) key i
+there o s h id v at i key place = known_place o s.words h.cells h.bodies v (h.knows id v at) i key place
+
+-- a published word, with its key
 module _ (o : Opening) (s : State (Unit {0}) View) (h : Kept o s) (id : ℕ) (v : View) (at : get_elem? s.views id ≡ some v) (i key : ℕ)
-    (place : KnowsPlace v i key) where
+    (spot : IsPlaceOf (at_of s.words) 0 1 (IsCell o h.cells) key i) where
   abbrev word : ℕ
   word = at_of s.words i
 
   k : Knows o s.words h.cells h.bodies v
   k = h.knows id v at
 
-  pub there : IsPlaceOf (at_of s.words) 0 1 (IsCell o h.cells) key i
-  there = known_place o s.words h.cells h.bodies v k i key place
-
   here : IsWordOf (at_of s.words) (at_of s.words 0) 1 (IsCell o h.cells) key word
-  here = word_at_place (at_of s.words) 0 1 (IsCell o h.cells) key i there
+  here = word_at_place (at_of s.words) 0 1 (IsCell o h.cells) key i spot
 
   -- the word says of each body under its key that the pass has met
-  tells : (x : ℕ) → Met v x → IsUnder key (site_at v.points x) → (word ≡ body_word x) ⊎ ((c : ℕ) × IsCell o h.cells c × (word ≡ cell_word c))
-  tells x m u =
+  says : (x : ℕ) → Met v x → IsUnder key (site_at v.points x) → (word ≡ body_word x) ⊎ ((c : ℕ) × IsCell o h.cells c × (word ≡ cell_word c))
+  says x m u =
       let under : IsUnder key (site_at o.sites x) = subst (λ (z : List Site). IsUnder key (site_at z x)) k.points u in
       word_over (site_at o.sites) (at_of s.words) (at_of s.words 0) 1 (IsCell o h.cells) (IsBody o h.bodies) (IsBody o h.bodies) h.stand x under.0 word
       (met_body o s h id v at x m)
       (subst (λ (z : ℕ). IsWordOf (at_of s.words) (at_of s.words 0) 1 (IsCell o h.cells) z word) under.2 here)
 
   nobody : word ≡ 0 → (x : ℕ) → Met v x → IsUnder key (site_at v.points x) → ⊥
-  nobody e x m u = elim (tells x m u) [ inl f ↦ omega arith | inr f ↦ let g = f.2 in omega arith ]
+  nobody e x m u = elim (says x m u) [ inl f ↦ omega arith | inr f ↦ let g = f.2 in omega arith ]
 
   other : (y : ℕ) → word ≡ body_word y → (x : ℕ) → Met v x → IsUnder key (site_at v.points x) → x ≡ y
-  other y e x m u = elim (tells x m u) [ inl f ↦ omega arith | inr f ↦ let g = f.2 in absurd (omega arith) ]
+  other y e x m u = elim (says x m u) [ inl f ↦ omega arith | inr f ↦ let g = f.2 in absurd (omega arith) ]
 
   -- the body that is named is in the tree
   pub named_body : (x : ℕ) → word ≡ body_word x → IsBody o h.bodies x × IsUnder key (site_at o.sites x)
@@ -172,6 +188,9 @@ module _ (o : Opening) (s : State (Unit {0}) View) (h : Kept o s) (id : ℕ) (v 
             let t = one.shallow in omega arith;
         inside = let t = h.inside d f.0 in let l = k.long in omega arith;
       }
+
+  pub tells : Tells v key word
+  tells = record { nobody = nobody; other = other; body = found_body; cell = found_cell }
 
   -- The new view, that it is in order, and what the word tells.
   pub record Answer : Type 0 where
@@ -209,11 +228,10 @@ module _ (o : Opening) (s : State (Unit {0}) View) (h : Kept o s) (id : ℕ) (v 
       view = refl;
       cells_stay = cells_stay;
       bodies_stay = bodies_stay;
-      nobody = nobody;
-      other = other;
+      body_noted = body;
+      cell_noted = cell;
       still = λ x q. (k.body_notes i x q).remains;
-      body = λ x e. (body x e, found_body x e);
-      cell = λ d e. (cell d e, found_cell d e);
+      tells = tells;
     };
   }
 
@@ -227,7 +245,7 @@ module _ (o : Opening) (s : State (Unit {0}) View) (h : Kept o s) (id : ℕ) (v 
       (known_again v.cell_notes (body_note i x ∷ v.body_notes) k.cell_notes
       (λ j y q. elim q [
         | inl f ↦ subst (λ (n : BodyNote). HasNamed (at_of s.words) 0 1 (IsCell o h.cells) n.place n.body) f
-            (record { key = key; published = there; remains = inl e })
+            (record { key = key; published = spot; remains = inl e })
         | inr f ↦ k.body_notes j y f
       ]))
   answer_of (ACell d e) =
@@ -267,5 +285,5 @@ module _ (o : Opening) (s : State (Unit {0}) View) (h : Kept o s) (id : ℕ) (v 
 
   -- what was found tells the same for each key that the word is known to have
   pub same_key : (other_key : ℕ) → KnowsPlace v i other_key → key ≡ other_key
-  same_key other_key q = one_key (at_of s.words) 0 1 (IsCell o h.cells) key other_key i (omega arith) there
+  same_key other_key q = one_key (at_of s.words) 0 1 (IsCell o h.cells) key other_key i (omega arith) spot
       (known_place o s.words h.cells h.bodies v k i other_key q)

@@ -88,7 +88,7 @@ module _ (o : Opening) (s : State (Unit {0}) View) (h : Kept o s) (id : ℕ) (v 
       | inl q ↦ more_body x q
       | inr q ↦ elim q [
         | inl m ↦ inr (let a = in_times x bodies m in omega arith)
-        | inr e ↦ more_body x (named_body o s h id v at i key place x (hit ∙ e)).0
+        | inr e ↦ more_body x (named_body o s h id v at i key (there o s h id v at i key place) x (hit ∙ e)).0
       ]
     ]),
     (λ p. elim p [

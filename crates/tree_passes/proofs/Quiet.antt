@@ -25,7 +25,7 @@ use Rattle.tree_passes.proofs.BothRules.{kept_of, quiet_of}
 use Rattle.tree_passes.specs.Plays.{Mine, looked, read, sought, wrote}
 use Rattle.tree_passes.proofs.Counts.{same-ne}
 use Rattle.tree_passes.proofs.After.{SameLists, reviewed, set_read}
-use Rattle.tree_passes.proofs.Looking.{after_load, knows_load, looked_load, named_body, same_key}
+use Rattle.tree_passes.proofs.Looking.{after_load, knows_load, looked_load, named_body, same_key, there}
 use Rattle.tree_passes.proofs.Storing.{kept_stored, place_not_held}
 
 -- two sites are one or not
@@ -82,16 +82,16 @@ module _ (k : Told) where
   pub looks : (slots id : ℕ) (me : Mine) (i key : ℕ) → KnowsPlace me.0 i key → Allows R slots id me i (λ n. n) (looked (step slots i 0 0 none) me)
   looks slots id me i key place s holds len at small =
       let h = kept s holds in
-      let w = after_load o s h id me.0 at i key place in (
+      let w = after_load o s h id me.0 at i key (there o s h id me.0 at i key place) in (
         w,
         keeps,
         tt,
         reread s holds i id me w at (record { lists = record { todo = refl; done = refl; held = refl; published = refl }; locks = refl; under = refl; quota = refl })
-            (knows_load o s h id me.0 at i key place),
+            (knows_load o s h id me.0 at i key (there o s h id me.0 at i key place)),
         (
           refl,
-          λ other q. subst (λ (z : ℕ). Looked me.0 i z (at_of s.words i) w) (same_key o s h id me.0 at i key place other q)
-              (looked_load o s h id me.0 at i key place),
+          λ other q. subst (λ (z : ℕ). Looked me.0 i z (at_of s.words i) w) (same_key o s h id me.0 at i key (there o s h id me.0 at i key place) other q)
+              (looked_load o s h id me.0 at i key (there o s h id me.0 at i key place)),
         ),
       )
 
@@ -140,14 +140,14 @@ module _ (k : Told) where
     word = get_or s.words i 0
 
     abbrev plain : View
-    plain = after_load o s h id me.0 at i key place
+    plain = after_load o s h id me.0 at i key (there o s h id me.0 at i key place)
 
     knows : Knows o s.words h.cells h.bodies plain
-    knows = knows_load o s h id me.0 at i key place
+    knows = knows_load o s h id me.0 at i key (there o s h id me.0 at i key place)
 
     tells : (other : ℕ) → KnowsPlace me.0 i other → Looked me.0 i other word plain
-    tells other q = subst (λ (z : ℕ). Looked me.0 i z word plain) (same_key o s h id me.0 at i key place other q)
-        (looked_load o s h id me.0 at i key place)
+    tells other q = subst (λ (z : ℕ). Looked me.0 i z word plain) (same_key o s h id me.0 at i key (there o s h id me.0 at i key place) other q)
+        (looked_load o s h id me.0 at i key (there o s h id me.0 at i key place))
 
     abbrev Owed : Type 0
     Owed = (w : View) × (a : Act (Unit {0})) × Valid s.homes me.1 a × R (stepped s i word id me.1 w a)
@@ -167,7 +167,7 @@ module _ (k : Told) where
     found : (x : ℕ) → word ≡ body_word x → site_at me.0.points x ≡ point → Owed
     found x e is =
         let w = record plain { seen = x ∷ plain.seen } in
-        let in_tree = (named_body o s h id me.0 at i key place x e).0 in (
+        let in_tree = (named_body o s h id me.0 at i key (there o s h id me.0 at i key place) x e).0 in (
           w,
           keeps,
           tt,

@@ -28,6 +28,15 @@ pub record FoundBody (v : View) (key x : ℕ) : Type 0 where
   pub not_todo : times x v.todo ≡ 0
   pub x_in : x < length v.points
 
+-- What the value of the published word with this key tells a pass.
+pub record Tells (v : View) (key value : ℕ) : Type 0 where
+  -- of an empty word: no body that the pass has done or seen lies under the key
+  pub nobody : value ≡ 0 → (x : ℕ) → Met v x → IsUnder key (site_at v.points x) → ⊥
+  -- of a word that names a body: no other one that the pass has done or seen lies there
+  pub other : (y : ℕ) → value ≡ body_word y → (x : ℕ) → Met v x → IsUnder key (site_at v.points x) → x ≡ y
+  pub body : (x : ℕ) → value ≡ body_word x → FoundBody v key x
+  pub cell : (d : ℕ) → value ≡ cell_word d → FoundCell v key d
+
 -- A value was found in the published word at a place, with this key. What the pass has stays, and it may have more notes.
 pub record Learns (v : View) (i key value : ℕ) (w : View) : Type 0 where
   pub cell_notes : List CellNote
@@ -35,14 +44,11 @@ pub record Learns (v : View) (i key value : ℕ) (w : View) : Type 0 where
   pub view : w ≡ noted v cell_notes body_notes
   pub cells_stay : (n : CellNote) → Has v.cell_notes n → Has cell_notes n
   pub bodies_stay : (n : BodyNote) → Has v.body_notes n → Has body_notes n
-  -- in an empty word no body that the pass has done or seen lies under the key
-  pub nobody : value ≡ 0 → (x : ℕ) → Met v x → IsUnder key (site_at v.points x) → ⊥
-  -- in that of a body no other body that the pass has done or seen does
-  pub other : (y : ℕ) → value ≡ body_word y → (x : ℕ) → Met v x → IsUnder key (site_at v.points x) → x ≡ y
+  pub body_noted : (x : ℕ) → value ≡ body_word x → Has body_notes (body_note i x)
+  pub cell_noted : (d : ℕ) → value ≡ cell_word d → Has cell_notes (cell_note d key)
   -- a word that was noted to name a body names it still, or a cell
   pub still : (x : ℕ) → Has v.body_notes (body_note i x) → NamesItOrCell value x
-  pub body : (x : ℕ) → value ≡ body_word x → Has body_notes (body_note i x) × FoundBody v key x
-  pub cell : (d : ℕ) → value ≡ cell_word d → Has cell_notes (cell_note d key) × FoundCell v key d
+  pub tells : Tells v key value
 
 -- a load of the published word at a place, with this key, found this value: it is counted, and is the last
 abbrev pub Looked : View → ℕ → ℕ → ℕ → View → Type 0
