@@ -13,3 +13,4 @@ mod LockSteps
 mod Drawing
 mod Made
 mod Between
+mod Ends

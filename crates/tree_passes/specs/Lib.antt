@@ -8,6 +8,7 @@ pub mod Rules
 pub mod Plays
 pub mod Making
 pub mod Between
+pub mod Ends
 
 
 
