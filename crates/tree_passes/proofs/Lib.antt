@@ -13,4 +13,4 @@ mod LockSteps
 mod Drawing
 mod Made
 mod Between
-mod Ends
+mod BeginsEnds

@@ -2,6 +2,7 @@
 #![tactic(auto)]
 
 pub mod cells;
+pub mod ends;
 pub mod exchange;
 pub mod loads;
 pub mod locks;

@@ -178,8 +178,10 @@ pub ends : (k : Writing) (o : Opening) (id : ℕ) (v : View) (ws : List ℕ) (xs
 ends k o id v ws xs f all = subst (λ (z : List ℕ). IsClosed o v.done v.seen z) f.2 (closes o f.0 (kept_of k o f.0 f.1.0) id v f.1.1 all)
 
 -- without locks none is set then
-pub ends_unlocked : (o : Opening) (id : ℕ) (v : View) (ws : List ℕ) (xs : List (Unit {0})) → Final (Seen (RuleOf ByExchange o) id v) ws xs → NoneLocked ws
-ends_unlocked o id v ws xs f = subst NoneLocked f.2 (λ cells e. unlocked f.0 f.1.0 cells e)
+pub ends_unlocked : (k : Writing) (o : Opening) (id : ℕ) (v : View) (ws : List ℕ) (xs : List (Unit {0})) → Final (Seen (RuleOf k o) id v) ws xs
+    → k ≡ ByExchange → NoneLocked ws
+ends_unlocked k o id v ws xs f free = subst NoneLocked f.2
+    (λ cells e. unlocked f.0 (subst (λ (z : Writing). RuleOf z o f.0) free f.1.0) cells e)
   where
     unlocked : (s : State (Unit {0}) View) → Free o s → NoneLocked s.words
     unlocked s h cells e = record {
