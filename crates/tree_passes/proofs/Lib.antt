@@ -14,3 +14,4 @@ mod Drawing
 mod Made
 mod Between
 mod BeginsEnds
+mod Turns

@@ -7,6 +7,7 @@ pub mod Locks
 pub mod Rules
 pub mod Plays
 pub mod Making
+pub mod Turns
 pub mod Between
 pub mod Ends
 
