@@ -1,5 +1,6 @@
 -- Between any two steps the words name cells and bodies exactly, and give the canonical octree.
 use Rattle.std.proofs.Common.{◌≡◌, ◌≢◌, ℕ, zero, suc, ◌+◌, ◌<◌, ◌≤◌, ◌↔◌, List, [], ◌∷◌, ◌++◌, refl, sym, ◌∙◌, subst, inl, inr, arith}
+use Rattle.std.proofs.lemmas.List.{append-nil}
 use mathlib.Core.Option.{some}
 use mathlib.Core.Logic.{dite}
 use native.Mathlib.Decide.{ℕ_discrete}
@@ -14,12 +15,15 @@ use Rattle.tree_rule.proofs.Laws.{cells_complete, cells_once, exact_of_stands, f
 use Rattle.tree_rule.proofs.Laws.{sound_of_stands, stands_same, word_is}
 use Rattle.tree_passes.specs.declared.view.TheConstants.{POOL_PLACE}
 use Rattle.tree_passes.specs.declared.view.View.{View}
+use Rattle.tree_passes.specs.declared.view.Writing.{Writing}
+use Rattle.tree_passes.specs.declared.view.Writing.TheVariants.{ByExchange, UnderLocks}
+use Rattle.tree_passes.specs.Rules.{RuleOf}
 use Rattle.tree_passes.specs.Counting.{all_of, numbers_from, sum_of, times}
 use Rattle.tree_passes.specs.Opening.{Opening, start_bodies, start_cells}
 use Rattle.tree_passes.specs.Passes.{IsBody, IsCell}
 use Rattle.tree_passes.specs.Rule.{Free, Kept}
 use Rattle.tree_passes.specs.Locks.{Locked}
-use Rattle.tree_passes.specs.Between.{bodies_now, cells_held, cells_left, cells_now, HoldsBetween}
+use Rattle.tree_passes.specs.Between.{bodies_now, cells_elsewhere, cells_held, cells_left, cells_now, HoldsBetween}
 use Rattle.tree_passes.proofs.Counts.{in_times, once_times, same-eq, same-ne, sum_of-add, sum_of_none, sum_of_one, times-append, times_in, times_once}
 use Rattle.tree_passes.proofs.Looking.{tells}
 
@@ -152,11 +156,11 @@ module _ (o : Opening) (s : State (Unit {0}) View) (h : Kept o s) where
       entrusted_all x = times_all x (λ (v : View). v.todo ++ v.done) s.views ∙ sums x s.views ∙ h.parted.entrusted x
 
 -- in a tree without locks the other cells are those that passes hold
-pub free_between : (o : Opening) (s : State (Unit {0}) View) → Free o s → HoldsBetween o (cells_held s.views ++ []) s
+free_between : (o : Opening) (s : State (Unit {0}) View) → Free o s → HoldsBetween o (cells_held s.views ++ []) s
 free_between o s f = between o s f.kept (cells_held s.views ++ []) (cells_apart o s f.kept [] (λ c. omega arith) (λ c p q. omega arith) (λ c p. absurd (omega arith)))
 
 -- in a tree with locks they are those, and those that the pool has not given out
-pub locked_between : (o : Opening) (s : State (Unit {0}) View) → Locked o s → HoldsBetween o (cells_held s.views ++ cells_left s.words s.views) s
+locked_between : (o : Opening) (s : State (Unit {0}) View) → Locked o s → HoldsBetween o (cells_held s.views ++ cells_left s.words s.views) s
 locked_between o s f =
     let from : ℕ = at_of s.words POOL_PLACE in
     let count : ℕ = sum_of (λ (v : View). v.quota) s.views in
@@ -167,3 +171,8 @@ locked_between o s f =
     sum_of_none (λ (v : View). times c v.published + times c v.held) s.views
     (λ j v e. dite (ℕ_discrete (times c v.published + times c v.held) 0) (λ z. z)
     (λ z. absurd (let g = (f.holds j v e).given c (omega arith) in omega arith)))))
+
+-- the same for both
+pub between_of : (k : Writing) (o : Opening) (s : State (Unit {0}) View) → RuleOf k o s → HoldsBetween o (cells_elsewhere k s) s
+between_of ByExchange o s f = subst (λ (z : List ℕ). HoldsBetween o z s) (append-nil (cells_held s.views)) (free_between o s f)
+between_of UnderLocks o s f = locked_between o s f

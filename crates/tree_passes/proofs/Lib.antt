@@ -15,3 +15,5 @@ mod Made
 mod Between
 mod BeginsEnds
 mod Turns
+mod Finding
+pub mod Laws

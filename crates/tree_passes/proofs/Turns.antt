@@ -98,7 +98,7 @@ still_learnt v i key value w l = subst (λ (z : View). IsStill v z) (sym l.view)
       body_notes = l.bodies_stay;
     })
 
-still_counted : (v : View) (key value : ℕ) → IsStill v (loaded v key value)
+pub still_counted : (v : View) (key value : ℕ) → IsStill v (loaded v key value)
 still_counted v key value = record {
   points = refl;
   opening = refl;

@@ -10,6 +10,8 @@ use Rattle.tree_rule.specs.Words.{at_of, child_place, tree_from}
 use Rattle.tree_rule.specs.Standing.{IsPublished, NamesExactly}
 use Rattle.tree_passes.specs.declared.view.TheConstants.{POOL_PLACE, ROW_WORDS}
 use Rattle.tree_passes.specs.declared.view.View.{View}
+use Rattle.tree_passes.specs.declared.view.Writing.{Writing}
+use Rattle.tree_passes.specs.declared.view.Writing.TheVariants.{ByExchange, UnderLocks}
 use Rattle.tree_passes.specs.Counting.{all_of, numbers_from, sum_of, times}
 use Rattle.tree_passes.specs.Opening.{Opening, start_bodies, start_cells}
 use Rattle.tree_passes.specs.Looks.{Tells}
@@ -29,6 +31,11 @@ cells_held views = all_of (λ v. v.held) views
 -- the cells that the pool has not given out: as many from the pool word on as the quotas of all passes
 abbrev pub cells_left : List ℕ → List View → List ℕ
 cells_left words views = numbers_from (at_of words POOL_PLACE) (sum_of (λ v. v.quota) views)
+
+-- The cells that are not published: those that passes hold, and those that a pool has not given out.
+abbrev pub cells_elsewhere : Writing → State (Unit {0}) View → List ℕ
+cells_elsewhere ByExchange s = cells_held s.views
+cells_elsewhere UnderLocks s = cells_held s.views ++ cells_left s.words s.views
 
 -- What holds of each pass.
 pub record IsPassOf (o : Opening) (s : State (Unit {0}) View) (v : View) : Type 0 where

@@ -1,5 +1,11 @@
 //! The rule of the words, and what passes step with.
 
+ghost use Rattle.atomic_table.specs.Table.{State};
+ghost use Rattle.tree_passes.specs.declared.view.View.{View};
+ghost use Rattle.tree_passes.specs.Opening.{opening_of};
+ghost use Rattle.tree_passes.specs.Rules.{RuleOf};
+ghost use Rattle.tree_passes.specs.Between.{cells_elsewhere, HoldsBetween};
+
 use crate::view::{Told, View};
 use atomic_table::{Seat, Shared, TableRule};
 
@@ -20,3 +26,12 @@ pub type Words = Shared<(), View, Told, TreeRule>;
 
 /// What a pass steps with. It takes no bytes.
 pub type Pass = Seat<(), View>;
+
+/// What the rule says, which holds between any two steps on the words of a table: the published words
+/// name exactly the published cells and bodies, they give the canonical octree of these bodies, the
+/// lists of the passes part what the opening entrusted, and what a word tells each pass is so.
+pub fn between_steps(table: &Words)
+    ensures { (s : State (Unit {0}) View) → RuleOf table.now.key.writing (opening_of table.now.key) s → HoldsBetween (opening_of table.now.key) (cells_elsewhere table.now.key.writing s) s }
+{
+    let _read = table;
+}
