@@ -1,19 +1,19 @@
 -- What stays true when the words, the counts and one view change as the rule lets them.
-use Rattle.std.proofs.Common.{◌≡◌, ◌≢◌, ℕ, zero, suc, ◌+◌, ◌*◌, ◌<◌, ◌≤◌, ◌⊎◌, List, [], ◌∷◌, length, set, get_or, sym, refl, ap, ◌∙◌, subst, inl, inr, ⊎_elim, arith}
+use Rattle.std.proofs.Common.{◌≡◌, ◌≢◌, ℕ, zero, suc, ◌+◌, ◌*◌, ◌<◌, ◌≤◌, List, [], ◌∷◌, length, set, get_or, sym, refl, ap, ◌∙◌, subst, inl, inr, ⊎_elim, arith}
 use mathlib.Core.Option.{some}
 use lib.ListN.{get_elem?}
 use Rattle.atomic_table.specs.Table.{State}
 use Rattle.atomic_table.proofs.Lists.{at_set}
 use Rattle.octant_code.specs.Points.{site_at}
-use Rattle.tree_rule.specs.Words.{at_of, child_place, key_place, lock_place}
+use Rattle.tree_rule.specs.Words.{at_of, child_place, lock_place}
 use Rattle.tree_rule.specs.Flat.{ChildPlace, IsPlaceOf, StandsFor, TopPlace}
 use Rattle.tree_rule.specs.Notes.{AreLater}
 use Rattle.tree_rule.proofs.Laws.{body_note_stays, cell_note_stays, place_kept}
 use Rattle.tree_passes.specs.declared.view.TheConstants.{ROW_WORDS}
 use Rattle.tree_passes.specs.declared.view.View.{View}
-use Rattle.tree_passes.specs.Counting.{times, sum_of}
+use Rattle.tree_passes.specs.Counting.{times}
 use Rattle.tree_passes.specs.Opening.{Opening}
-use Rattle.tree_passes.specs.Passes.{HasKey, IsBody, IsCell, Knows, KnowsPlace}
+use Rattle.tree_passes.specs.Passes.{IsBody, IsCell, Knows, KnowsPlace}
 use Rattle.tree_passes.specs.Rule.{Kept, Parted}
 use Rattle.tree_passes.proofs.Counts.{sum_of-set}
 

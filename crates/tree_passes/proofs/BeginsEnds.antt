@@ -1,5 +1,5 @@
 -- The rules at the start, and what they say at the end.
-use Rattle.std.proofs.Common.{◌≡◌, ◌≢◌, ℕ, zero, suc, ◌+◌, ◌<◌, ◌≤◌, ◌↔◌, List, [], ◌∷◌, length, set, sym, refl, ap, ◌∙◌, subst, inl, inr, arith, length-set, get_or-set_same, get_or-set_other}
+use Rattle.std.proofs.Common.{◌≡◌, ◌≢◌, ℕ, zero, suc, ◌+◌, ◌<◌, ◌↔◌, List, [], ◌∷◌, length, set, sym, refl, ap, ◌∙◌, subst, inl, inr, arith, length-set, get_or-set_same, get_or-set_other}
 use Rattle.std.proofs.lemmas.Bool.{cases_lt}
 use Rattle.std.proofs.lemmas.List.{get_or_past}
 use mathlib.Core.Option.{some, some-injective, some-ne-none}
@@ -17,8 +17,8 @@ use Rattle.octree.specs.Stored.{AreOctreeWords, word_count}
 use Rattle.tree_passes.specs.declared.view.TheConstants.{POOL_PLACE}
 use Rattle.tree_passes.specs.declared.view.View.{View}
 use Rattle.tree_passes.specs.declared.view.Writing.{Writing}
-use Rattle.tree_passes.specs.declared.view.Writing.TheVariants.{ByExchange, UnderLocks}
-use Rattle.tree_passes.specs.Counting.{sum_of, times}
+use Rattle.tree_passes.specs.declared.view.Writing.TheVariants.{ByExchange}
+use Rattle.tree_passes.specs.Counting.{times}
 use Rattle.tree_passes.specs.Opening.{Opening, fresh_view}
 use Rattle.tree_passes.specs.Passes.{IsBody, IsCell, Knows}
 use Rattle.tree_passes.specs.Rule.{Free, Kept}
@@ -113,7 +113,7 @@ free_begins sites words todo held h = record {
 -- how a tree with locks begins
 pub locked_begins : (sites : List Site) (words todo held : List ℕ) (pool quota : ℕ) → CanOpen sites words todo held → CanPool words held pool quota
     → Locked (record { sites = sites; words = words; todo = todo })
-      (opening (set words POOL_PLACE pool) [] (fresh_view (record { sites = sites; words = words; todo = todo }) held quota todo))
+    (opening (set words POOL_PLACE pool) [] (fresh_view (record { sites = sites; words = words; todo = todo }) held quota todo))
 locked_begins sites words todo held pool quota h p =
     let ws : List ℕ = set words POOL_PLACE pool in
     let pool_now : at_of (set words POOL_PLACE pool) POOL_PLACE ≡ pool = get_or-set_same words POOL_PLACE pool 0 (let l = h.octree.long in omega arith) in

@@ -1,14 +1,12 @@
 -- Between any two steps the words name cells and bodies exactly, and give the canonical octree.
-use Rattle.std.proofs.Common.{◌≡◌, ◌≢◌, ℕ, zero, suc, ◌+◌, ◌<◌, ◌≤◌, ◌↔◌, List, [], ◌∷◌, ◌++◌, refl, sym, ◌∙◌, subst, inl, inr, arith}
+use Rattle.std.proofs.Common.{◌≡◌, ◌≢◌, ℕ, zero, suc, ◌+◌, ◌≤◌, ◌↔◌, List, [], ◌∷◌, ◌++◌, refl, sym, ◌∙◌, subst, inl, inr, arith}
 use Rattle.std.proofs.lemmas.List.{append-nil}
-use mathlib.Core.Option.{some}
 use mathlib.Core.Logic.{dite}
 use native.Mathlib.Decide.{ℕ_discrete}
-use lib.ListN.{get_elem?}
 use Rattle.atomic_table.specs.Table.{State}
 use Rattle.octant_code.specs.Points.{site_at}
 use Rattle.bh_model.specs.Bodies.{IsIn, NoneTwice}
-use Rattle.tree_rule.specs.Words.{at_of, key_place, HasBody, HasCell}
+use Rattle.tree_rule.specs.Words.{at_of, HasBody, HasCell}
 use Rattle.tree_rule.specs.Flat.{StandsFor}
 use Rattle.tree_rule.specs.Sound.{HereAs}
 use Rattle.tree_rule.proofs.Laws.{cells_complete, cells_once, exact_of_stands, flat_gives_canonical, order_has_none_twice, order_members, place_kept}
@@ -71,7 +69,7 @@ module _ (o : Opening) (s : State (Unit {0}) View) (h : Kept o s) where
       let e = published_are c in (
         (λ p. both.1 (elim p [ inl q ↦ (let t = in_times c (start_cells o) ((start_cell c).0 q) in omega arith) | inr q ↦ omega arith ])),
         (λ p. let t = both.0 p in
-        dite (ℕ_discrete (times c (start_cells o)) 0) (λ z. inr (omega arith)) (λ z. inl ((start_cell c).1 (times_in c (start_cells o) (omega arith))))),
+            dite (ℕ_discrete (times c (start_cells o)) 0) (λ z. inr (omega arith)) (λ z. inl ((start_cell c).1 (times_in c (start_cells o) (omega arith))))),
       )
 
   body_now : (x : ℕ) → IsBody o h.bodies x ↔ IsIn (bodies_now o s.views) x
@@ -80,7 +78,7 @@ module _ (o : Opening) (s : State (Unit {0}) View) (h : Kept o s) where
       let e = done_are x in (
         (λ p. both.1 (elim p [ inl q ↦ (let t = in_times x (start_bodies o) ((start_body x).0 q) in omega arith) | inr q ↦ omega arith ])),
         (λ p. let t = both.0 p in
-        dite (ℕ_discrete (times x (start_bodies o)) 0) (λ z. inr (omega arith)) (λ z. inl ((start_body x).1 (times_in x (start_bodies o) (omega arith))))),
+            dite (ℕ_discrete (times x (start_bodies o)) 0) (λ z. inr (omega arith)) (λ z. inl ((start_body x).1 (times_in x (start_bodies o) (omega arith))))),
       )
 
   stands_now : StandsFor (site_at o.sites) (at_of s.words) (at_of s.words 0) 1 (IsIn (cells_now o s.views)) (IsIn (bodies_now o s.views))

@@ -1,5 +1,5 @@
 -- A cell is drawn from the shared pool.
-use Rattle.std.proofs.Common.{◌≡◌, ◌≢◌, ℕ, zero, suc, ◌+◌, ◌-◌, ◌*◌, ◌%◌, ◌^◌, ◌<◌, ◌≤◌, List, [], ◌∷◌, length, get_or, set, sym, refl, ap, ◌∙◌, subst, inl, inr, arith, length-set, get_or-set_same, get_or-set_other}
+use Rattle.std.proofs.Common.{◌≡◌, ◌≢◌, ℕ, zero, suc, ◌+◌, ◌-◌, ◌%◌, ◌^◌, ◌<◌, ◌≤◌, List, [], ◌∷◌, length, set, sym, refl, ap, ◌∙◌, subst, arith, length-set, get_or-set_same, get_or-set_other}
 use Rattle.std.proofs.Math.Nat.{mod-eq_of_lt}
 use mathlib.Core.Option.{none, some}
 use mathlib.Core.Logic.{dite}
@@ -7,16 +7,14 @@ use native.Mathlib.Decide.{ℕ_discrete}
 use lib.ListN.{get_elem?}
 use Rattle.atomic_table.specs.Table.{Allows, State, keeps, step}
 use Rattle.tree_rule.specs.declared.words.TheConstants.{MOST_CELLS}
-use Rattle.tree_rule.specs.Words.{at_of, child_place, key_place, lock_place, HasCell}
-use Rattle.tree_rule.specs.Flat.{ChildPlace, IsPlaceOf, TopPlace}
-use Rattle.octree.specs.Stored.{word_count}
+use Rattle.tree_rule.specs.Words.{at_of, child_place, lock_place}
 use Rattle.tree_passes.specs.declared.view.TheConstants.{POOL_PLACE, ROW_WORDS}
 use Rattle.tree_passes.specs.declared.view.View.{View}
 use Rattle.tree_passes.specs.Counting.{same, sum_of, times}
 use Rattle.tree_passes.specs.Opening.{Opening}
 use Rattle.tree_passes.specs.Passes.{IsCell, Knows}
 use Rattle.tree_passes.specs.Rule.{Kept, Parted}
-use Rattle.tree_passes.specs.Locks.{Holds, IsLock, Locked}
+use Rattle.tree_passes.specs.Locks.{Holds, Locked}
 use Rattle.tree_passes.specs.Plays.{drawn, Mine}
 use Rattle.tree_passes.proofs.Counts.{same-eq, same-ne, sum_of-set, sum_of_none, sum_of_one}
 use Rattle.tree_passes.proofs.After.{knows_on}
@@ -213,13 +211,16 @@ draws o slots id me some_left s f len at small =
       tt,
       subst (λ (n : ℕ). Locked o record { words = set s.words POOL_PLACE n; homes = s.homes; views = set s.views id (w o s f id v at some_left) })
           (sym (mod-eq_of_lt (omega arith))) (locked_drawn o s f id v at some_left),
-      (refl, record {
-        memory = memory o s f id v at some_left;
-        view = refl;
-        long = memory_long o s f id v at some_left;
-        others = memory_other o s f id v at some_left;
-        fresh = fresh o s f id v at some_left;
-        small = omega arith;
-        inside = omega arith;
-      }),
+      (
+        refl,
+        record {
+          memory = memory o s f id v at some_left;
+          view = refl;
+          long = memory_long o s f id v at some_left;
+          others = memory_other o s f id v at some_left;
+          fresh = fresh o s f id v at some_left;
+          small = omega arith;
+          inside = omega arith;
+        },
+      ),
     )

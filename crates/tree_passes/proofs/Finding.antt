@@ -1,5 +1,5 @@
 -- Facts between the steps of a search.
-use Rattle.std.proofs.Common.{◌≡◌, ◌≢◌, ℕ, ◌+◌, ◌<◌, ◌≤◌, ◌⊎◌, List, ◌∷◌, length, sym, refl, ap, ◌∙◌, subst, inl, inr, arith}
+use Rattle.std.proofs.Common.{◌≡◌, ◌≢◌, ℕ, ◌+◌, ◌<◌, ◌≤◌, ◌⊎◌, List, length, sym, ap, ◌∙◌, subst, inl, inr, arith}
 use Rattle.octant_code.specs.declared.limits.TheConstants.{LEVELS}
 use Rattle.octant_code.specs.Space.{Site, key_of, IsUnder}
 use Rattle.octant_code.specs.Points.{site_at}
@@ -8,7 +8,7 @@ use Rattle.tree_passes.specs.declared.view.View.{View}
 use Rattle.tree_passes.specs.Counting.{times}
 use Rattle.tree_passes.specs.Passes.{loaded, Met}
 use Rattle.tree_passes.specs.Looks.{Sought}
-use Rattle.tree_passes.specs.Turns.{Descends, HasFound, HasNone, IsStill, LoadedLast}
+use Rattle.tree_passes.specs.Turns.{Descends, HasFound, HasNone, IsStill}
 use Rattle.tree_passes.proofs.Turns.{descends_learnt, still_counted, still_looked, still_on}
 
 -- a body that the pass has met stays met

@@ -10,6 +10,7 @@ mod LockedRule
 mod BothRules
 mod Quiet
 mod LockSteps
+mod UnderLocks
 mod Drawing
 mod Made
 mod Between

@@ -1,18 +1,17 @@
 -- The rule of a tree with locks and a pool is kept by each step that counts its locks and its quota.
-use Rattle.std.proofs.Common.{◌≡◌, ◌≢◌, ℕ, zero, suc, ◌+◌, ◌*◌, ◌<◌, ◌≤◌, List, [], ◌∷◌, ◌++◌, length, set, sym, refl, ap, ◌∙◌, subst, arith}
-use mathlib.Core.Option.{some, some-injective}
+use Rattle.std.proofs.Common.{◌≡◌, ◌≢◌, ℕ, zero, suc, ◌+◌, ◌<◌, ◌≤◌, List, length, set, ap, ◌∙◌, subst, arith}
+use mathlib.Core.Option.{some}
 use lib.ListN.{get_elem?}
 use Rattle.atomic_table.specs.Table.{State}
-use Rattle.tree_rule.specs.Words.{at_of, child_place, lock_place}
-use Rattle.tree_rule.specs.Flat.{IsPlaceOf}
+use Rattle.tree_rule.specs.Words.{at_of}
 use Rattle.tree_passes.specs.declared.view.TheConstants.{POOL_PLACE}
 use Rattle.tree_passes.specs.declared.view.View.{View}
 use Rattle.tree_passes.specs.Counting.{Has, sum_of, times}
 use Rattle.tree_passes.specs.Opening.{Opening}
-use Rattle.tree_passes.specs.Passes.{given_part, IsCell, joined, kept_part, spent}
+use Rattle.tree_passes.specs.Passes.{given_part, joined, kept_part, spent}
 use Rattle.tree_passes.specs.Rule.{Kept}
 use Rattle.tree_passes.specs.Locks.{Holds, IsLock, Locked}
-use Rattle.tree_passes.proofs.Keeps.{IsKeptByJoins, IsKeptByQuiet, IsKeptBySplits, IsQuiet}
+use Rattle.tree_passes.proofs.Keeps.{IsKeptByJoins, IsKeptByQuiet, IsKeptBySplits}
 use Rattle.tree_passes.proofs.Counts.{sum_of-set, times-append, times-without_all}
 use Rattle.tree_passes.proofs.After.{each_set}
 use Rattle.tree_passes.proofs.Parting.{each_join, each_split, join_total, kept_join, kept_split, split_total, was_there}

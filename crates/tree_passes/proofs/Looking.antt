@@ -8,21 +8,21 @@ use Rattle.atomic_table.specs.Table.{State}
 use Rattle.octant_code.specs.Space.{Site, IsUnder}
 use Rattle.octant_code.specs.Points.{site_at}
 use Rattle.octant_code.proofs.Keys.{same_level}
-use Rattle.bh_model.specs.Bodies.{HasMoreThan, IsIn, leaf_size}
+use Rattle.bh_model.specs.Bodies.{IsIn}
 use Rattle.bh_model.proofs.Lists.{in_left, in_right}
 use Rattle.bh_model.proofs.MoreThan.{more_so}
 use Rattle.tree_rule.specs.declared.notes.CellNote.{CellNote}
 use Rattle.tree_rule.specs.declared.notes.BodyNote.{BodyNote}
 use Rattle.tree_rule.specs.Words.{at_of, body_word, cell_word, HasBody, HasCell}
 use Rattle.tree_rule.specs.Flat.{IsPlaceOf, IsWordOf}
-use Rattle.tree_rule.specs.Notes.{HasNamed, IsPublishedAs, NamesItOrCell}
+use Rattle.tree_rule.specs.Notes.{HasNamed, IsPublishedAs}
 use Rattle.tree_rule.proofs.Laws.{ACell, NoBody, OneBody, WordIs, one_key, order_members, sharer, word_at_place, word_is, word_over}
 use Rattle.tree_passes.specs.declared.view.View.{View}
 use Rattle.tree_passes.specs.Counting.{times, Has}
 use Rattle.tree_passes.specs.Opening.{Opening, all_bodies, start_bodies}
 use Rattle.tree_passes.specs.Passes.{body_note, cell_note, IsBody, IsCell, Knows, KnowsPlace, loaded, Met, noted}
 use Rattle.tree_passes.specs.Rule.{Kept}
-use Rattle.tree_passes.specs.Looks.{FoundBody, FoundCell, IsOther, Learns, Looked, Tells}
+use Rattle.tree_passes.specs.Looks.{FoundBody, FoundCell, Learns, Looked, Tells}
 use Rattle.tree_passes.proofs.Counts.{sum_of-add, sum_of_one, times_in}
 use Rattle.tree_passes.proofs.After.{known_place}
 
@@ -117,10 +117,10 @@ pub met_body : (o : Opening) (s : State (Unit {0}) View) (h : Kept o s) (id : �
     → IsBody o h.bodies x
 met_body o s h id v at x m = dite (ℕ_discrete (times x v.seen) 0)
     (λ none_there. inr (
-      let d = h.parted.bodies_are x in
-      let c = sum_of_one (λ (u : View). times x u.done) s.views id v at in
-      let n : 1 ≤ times x v.done + times x v.seen = m in
-      omega arith
+    let d = h.parted.bodies_are x in
+    let c = sum_of_one (λ (u : View). times x u.done) s.views id v at in
+    let n : 1 ≤ times x v.done + times x v.seen = m in
+    omega arith
     ))
     (λ some_there. (h.knows id v at).seen x (omega arith))
 

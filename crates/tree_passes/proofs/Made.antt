@@ -4,7 +4,6 @@ use mathlib.Core.Logic.{dite}
 use native.Mathlib.Decide.{ℕ_discrete}
 use Rattle.octant_code.specs.Space.{Site, octant_of}
 use Rattle.octant_code.specs.Points.{site_at}
-use Rattle.octant_code.specs.declared.limits.TheConstants.{LEVELS}
 use Rattle.octant_code.proofs.Keys.{octant-small}
 use Rattle.bh_model.specs.Bodies.{IsIn}
 use Rattle.tree_rule.specs.Words.{at_of, body_word, cell_word, child_place, key_place, lock_place}

@@ -1,5 +1,5 @@
 -- A publication: one published word takes a body, or the top of cells that the pass holds.
-use Rattle.std.proofs.Common.{◌≡◌, ◌≢◌, ℕ, ◌+◌, ◌<◌, ◌≤◌, ◌⊎◌, ◌↔◌, List, length, set, sym, refl, ap, ◌∙◌, subst, inl, inr, arith, length-set, get_or-set_other}
+use Rattle.std.proofs.Common.{◌≡◌, ℕ, ◌+◌, ◌<◌, ◌≤◌, ◌⊎◌, ◌↔◌, List, set, sym, ap, ◌∙◌, subst, inl, inr, arith, length-set}
 use mathlib.Core.Option.{some}
 use mathlib.Core.Logic.{dite}
 use native.Mathlib.Decide.{ℕ_discrete}
@@ -8,7 +8,7 @@ use Rattle.atomic_table.specs.Table.{State}
 use Rattle.octant_code.specs.Space.{Site}
 use Rattle.octant_code.specs.Points.{site_at}
 use Rattle.bh_model.specs.Bodies.{IsIn}
-use Rattle.tree_rule.specs.Words.{at_of, body_word, cell_word, child_place, key_place}
+use Rattle.tree_rule.specs.Words.{at_of, cell_word, child_place, key_place}
 use Rattle.tree_rule.specs.Flat.{ChangedAt, Either, IsPlaceOf, StandsFor}
 use Rattle.tree_rule.proofs.Laws.{ACell, NoBody, OneBody, WordIs, changed_at, graft, key_apart, stands_moved, stands_same, word_is}
 use Rattle.tree_passes.specs.declared.view.TheConstants.{ROW_WORDS}

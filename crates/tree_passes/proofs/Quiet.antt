@@ -17,10 +17,10 @@ use Rattle.tree_passes.specs.Counting.{times}
 use Rattle.tree_passes.specs.Opening.{Opening, opening_of}
 use Rattle.tree_passes.specs.Passes.{IsBody, Knows, KnowsPlace}
 use Rattle.tree_passes.specs.Rule.{Kept}
-use Rattle.tree_passes.specs.Looks.{Looked, Sought}
+use Rattle.tree_passes.specs.Looks.{Looked}
 use Rattle.tree_passes.specs.Locks.{CellsLock, IsLock, RootsLock}
 use Rattle.tree_passes.specs.Rules.{RuleOf}
-use Rattle.tree_passes.proofs.Keeps.{IsKeptByQuiet, IsQuiet}
+use Rattle.tree_passes.proofs.Keeps.{IsKeptByQuiet}
 use Rattle.tree_passes.proofs.BothRules.{kept_of, quiet_of}
 use Rattle.tree_passes.specs.Plays.{Mine, looked, read, sought, wrote}
 use Rattle.tree_passes.proofs.Counts.{same-ne}

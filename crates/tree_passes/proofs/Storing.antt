@@ -6,12 +6,12 @@ use native.Mathlib.Decide.{ℕ_discrete}
 use lib.ListN.{get_elem?}
 use Rattle.atomic_table.specs.Table.{State}
 use Rattle.octant_code.specs.Points.{site_at}
-use Rattle.tree_rule.specs.Words.{at_of, child_place, key_place, lock_place}
+use Rattle.tree_rule.specs.Words.{at_of, child_place, key_place}
 use Rattle.tree_rule.specs.Flat.{ChildPlace, IsPlaceOf, StandsFor, TopPlace}
-use Rattle.tree_rule.proofs.Laws.{place_kept, stands_moved}
+use Rattle.tree_rule.proofs.Laws.{stands_moved}
 use Rattle.tree_passes.specs.declared.view.TheConstants.{ROW_WORDS}
 use Rattle.tree_passes.specs.declared.view.View.{View}
-use Rattle.tree_passes.specs.Counting.{times, sum_of}
+use Rattle.tree_passes.specs.Counting.{times}
 use Rattle.tree_passes.specs.Opening.{Opening}
 use Rattle.tree_passes.specs.Passes.{IsBody, IsCell, Knows}
 use Rattle.tree_passes.specs.Rule.{Kept, Parted}

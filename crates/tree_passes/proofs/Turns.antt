@@ -1,5 +1,5 @@
 -- Facts between the steps of one call, on the way down and at an insertion.
-use Rattle.std.proofs.Common.{◌≡◌, ◌≢◌, ℕ, zero, suc, ◌+◌, ◌*◌, ◌<◌, ◌≤◌, ◌⊎◌, List, [], ◌∷◌, length, take, sym, refl, ap, ◌∙◌, subst, inl, inr, arith}
+use Rattle.std.proofs.Common.{◌≡◌, ◌≢◌, ℕ, ◌+◌, ◌*◌, ◌<◌, ◌≤◌, List, [], ◌∷◌, length, take, sym, refl, ap, ◌∙◌, subst, inl, inr, arith}
 use Rattle.octant_code.specs.declared.limits.TheConstants.{LEVELS}
 use Rattle.octant_code.specs.Space.{Site, IsUnder, key_of}
 use Rattle.octant_code.specs.Points.{site_at, ArePoints}
@@ -13,7 +13,7 @@ use Rattle.tree_rule.proofs.Laws.{Nothing, Only, stands_body, stands_same}
 use Rattle.octree.specs.Chain.{ArePair, IsOneOf}
 use Rattle.tree_passes.specs.declared.view.View.{View}
 use Rattle.tree_passes.specs.Counting.{times, Has, without_all}
-use Rattle.tree_passes.specs.Passes.{after_publication, body_note, cell_note, KnowsPlace, loaded, noted}
+use Rattle.tree_passes.specs.Passes.{after_publication, body_note, cell_note, KnowsPlace, loaded}
 use Rattle.tree_passes.specs.Looks.{FoundBody, FoundCell, Learns, Looked}
 use Rattle.tree_passes.specs.Plays.{IsAmong, IsReadyFor}
 use Rattle.tree_passes.specs.Making.{HasWritten, IsReady}

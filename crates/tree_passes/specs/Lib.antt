@@ -10,6 +10,3 @@ pub mod Making
 pub mod Turns
 pub mod Between
 pub mod Ends
-
-
-

@@ -1,5 +1,5 @@
 -- What a load of a published word teaches its pass, and an exchange that failed.
-use Rattle.std.specs.Prelude.{ℕ, ◌≡◌, ◌≢◌, ◌<◌, ◌≤◌, ◌⊎◌, List, ◌∷◌, length}
+use Rattle.std.specs.Prelude.{ℕ, ◌≡◌, ◌≢◌, ◌<◌, List, ◌∷◌, length}
 use Rattle.octant_code.specs.declared.limits.TheConstants.{LEVELS}
 use Rattle.octant_code.specs.Space.{Site, key_of, IsUnder}
 use Rattle.octant_code.specs.Points.{site_at}

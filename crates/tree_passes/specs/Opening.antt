@@ -4,7 +4,7 @@ use Rattle.octant_code.specs.Space.{Site}
 use Rattle.octant_code.specs.Points.{ArePoints}
 use Rattle.bh_model.specs.Trees.{order}
 use Rattle.tree_rule.specs.declared.words.TheConstants.{MOST_CELLS}
-use Rattle.tree_rule.specs.Words.{at_of, cells_from, tree_from, HasBody, HasCell}
+use Rattle.tree_rule.specs.Words.{at_of, cells_from, tree_from, HasBody}
 use Rattle.octree.specs.Stored.{StandsWell, word_count}
 use Rattle.tree_passes.specs.declared.view.View.{View}
 use Rattle.tree_passes.specs.declared.view.Told.{Told}

@@ -1,5 +1,5 @@
 -- What each step tells its caller.
-use Rattle.std.specs.Prelude.{ℕ, ◌≡◌, ◌≢◌, ◌+◌, ◌-◌, ◌<◌, ◌≤◌, ◌⊎◌, cond, eqb, List, [], ◌∷◌, length, slice_set}
+use Rattle.std.specs.Prelude.{ℕ, ◌≡◌, ◌≢◌, ◌-◌, ◌<◌, ◌≤◌, ◌⊎◌, cond, eqb, List, [], ◌∷◌, length, slice_set}
 use Rattle.atomic_table.specs.Table.{Me, Step}
 use Rattle.octant_code.specs.Space.{Site}
 use Rattle.octant_code.specs.Points.{site_at}
@@ -9,7 +9,7 @@ use Rattle.tree_rule.specs.Words.{at_of, body_word, cell_word, child_place, lock
 use Rattle.tree_rule.specs.Flat.{StandsFor}
 use Rattle.tree_passes.specs.declared.view.TheConstants.{ROW_WORDS}
 use Rattle.tree_passes.specs.declared.view.View.{View}
-use Rattle.tree_passes.specs.Counting.{times, Has}
+use Rattle.tree_passes.specs.Counting.{times}
 use Rattle.tree_passes.specs.Passes.{after_publication, KnowsPlace}
 use Rattle.tree_passes.specs.Looks.{Learns, Looked, Sought}
 
@@ -51,7 +51,7 @@ abbrev pub exchanged : List ℕ → List ℕ → Step (Unit {0}) → Mine → �
 exchanged cells bodies st m found m' =
     (m'.1 ≡ m.1)
     × ((key : ℕ) → KnowsPlace m.0 st.word key
-      → (found ≡ st.first → m'.0 ≡ after_publication m.0 cells bodies) × (found ≢ st.first → Learns m.0 st.word key found m'.0))
+    → (found ≡ st.first → m'.0 ≡ after_publication m.0 cells bodies) × (found ≢ st.first → Learns m.0 st.word key found m'.0))
 
 -- a lock is taken where its word was 0
 abbrev pub acquired : Step (Unit {0}) → Mine → ℕ → Mine → Type 0

@@ -1,12 +1,23 @@
-//! What each pass over a shared octree knows, the rule of the shared words, and the single steps.
+//! Passes over the words of a shared octree: what each pass knows, the rule of the words, which holds
+//! between any two steps of any number of passes, the single steps, and the code that a tree without
+//! locks and a tree with locks share.
 #![tactic(auto)]
 
-pub mod cells;
-pub mod ends;
-pub mod exchange;
-pub mod loads;
-pub mod locks;
-pub mod parts;
+mod cells;
+mod ends;
+mod exchanges;
+mod loads;
+mod locks;
+mod parts;
 mod plays;
-pub mod rule;
-pub mod view;
+mod rule;
+mod view;
+
+pub use cells::{Cube, part_two, read_word, write_cell, write_word};
+pub use ends::{Tree, close, open_free, open_locked};
+pub use exchanges::exchange;
+pub use loads::{counted_load, counted_seek, load, seek};
+pub use locks::{draw_cell, load_locked, store_locked, try_lock, unlock};
+pub use parts::{join_passes, split_pass};
+pub use rule::{Pass, TreeRule, Words, between_steps};
+pub use view::{KEY_PART, POOL_PLACE, ROOT_LOCK, ROW_WORDS, Told, View, Writing};

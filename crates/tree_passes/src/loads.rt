@@ -23,12 +23,7 @@ pub fn load(table: &Words, pass: &mut Pass, word: usize) -> u64
 }
 
 // The point is picked by the value.
-fn seek_target<T: Target>(
-    table: &Words,
-    pass: &mut Pass,
-    word: usize,
-    p: Point,
-) -> u64
+fn seek_target<T: Target>(table: &Words, pass: &mut Pass, word: usize, p: Point) -> u64
     requires place { pass.old.table_id ≡ table.now.table_id }
     requires word { word < table.now.table_id.words }
     requires known { (key : ℕ) × KnowsPlace pass.old.me.0 word key }

@@ -29,13 +29,7 @@ fn split_share<S: Share>(
 
 /// Splits bodies of the todo list off for a new pass, which gets these cells and this quota, and has
 /// seen what the old one has done or seen.
-pub fn split_pass(
-    table: &Words,
-    pass: &mut Pass,
-    cells: &[u32],
-    bodies: &[u32],
-    quota: u64,
-) -> Pass
+pub fn split_pass(table: &Words, pass: &mut Pass, cells: &[u32], bodies: &[u32], quota: u64) -> Pass
     requires place { (pass.old.table_id ≡ table.now.table_id) × (0 < table.now.table_id.words) }
     requires cells { (c : ℕ) → times c cells.now ≤ times c pass.old.me.0.held }
     requires bodies { (x : ℕ) → times x bodies.now ≤ times x pass.old.me.0.todo }

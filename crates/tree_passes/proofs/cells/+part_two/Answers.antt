@@ -7,9 +7,8 @@ use Rattle.tree_rule.specs.Words.{at_of, cell_word, lock_place}
 use Rattle.tree_rule.specs.Flat.{StandsFor}
 use Rattle.octree.specs.Chain.{ArePair, IsOneOf}
 use Rattle.octree.proofs.Laws.{pair_deeper}
-use Rattle.tree_passes.specs.declared.view.View.{View}
 use Rattle.tree_passes.specs.Making.{HasWritten, IsReady}
-use Rattle.tree_passes.proofs.Made.{eight, forked_first, held_on, length_rest, linked_first, one_child, ready_first, ready_rest, rest_is, this_child, two_children, wrote_first, wrote_one}
+use Rattle.tree_passes.proofs.Made.{eight, forked_first, length_rest, linked_first, one_child, ready_first, ready_rest, rest_is, this_child, two_children, wrote_first, wrote_one}
 use Rattle.tree_passes.proofs.cells.+part_two.Goals.{After-octant-b}
 use Rattle.tree_passes.proofs.cells.+part_two.Goals as goal
 
@@ -60,9 +59,9 @@ part_two-used-requires t c =
           subst (λ (z : List ℕ). IsReady c.args.pass.now.me.0 c.args.table.now.table_id.words z) (sym rest) (ready_rest _ _ _ r.ready),
           (
             (
-              let e : length (take (length c.args.spare.now - 1) (drop 1 c.args.spare.now)) ≡ length c.args.spare.now - 1 = ap length rest ∙ length_rest c.args.spare.now in
-              omega (arith, r.room, r.pair.shallow)
-            ),
+                let e : length (take (length c.args.spare.now - 1) (drop 1 c.args.spare.now)) ≡ length c.args.spare.now - 1 = ap length rest ∙ length_rest c.args.spare.now in
+                omega (arith, r.room, r.pair.shallow)
+                ),
             (
               r.rule,
               subst (λ (y : ℕ). ArePair c.args.points.now c.args.x c.args.n (8 * c.args.cube.key + y) (c.args.cube.level + 1)) (sym c.from.ensures) pair,

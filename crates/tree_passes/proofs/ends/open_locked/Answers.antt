@@ -1,6 +1,5 @@
 use Rattle.std.proofs.Common.{ℕ, List, [], ap, sym, subst}
 use Rattle.atomic_table.specs.Table.{opening}
-use Rattle.octant_code.specs.Space.{Site}
 use Rattle.tree_passes.specs.Opening.{Opening, fresh_view}
 use Rattle.tree_passes.specs.Locks.{Locked}
 use Rattle.tree_passes.proofs.BeginsEnds.{locked_begins}

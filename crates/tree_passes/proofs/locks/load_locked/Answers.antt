@@ -1,6 +1,6 @@
 use Rattle.std.proofs.Common.{rules}
 use Rattle.tree_passes.specs.Opening.{opening_of}
-use Rattle.tree_passes.proofs.LockSteps.{looks_under}
+use Rattle.tree_passes.proofs.UnderLocks.{looks_under}
 use Rattle.tree_passes.proofs.locks.load_locked.Goals as goal
 
 pub load-requires : goal.load-requires
