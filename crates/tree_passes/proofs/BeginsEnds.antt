@@ -1,5 +1,6 @@
 -- The rules at the start, and what they say at the end.
-use Rattle.std.proofs.Common.{◌≡◌, ◌≢◌, ℕ, zero, suc, ◌+◌, ◌<◌, ◌↔◌, List, [], ◌∷◌, length, set, sym, refl, ap, ◌∙◌, subst, inl, inr, arith, length-set, get_or-set_same, get_or-set_other}
+use Rattle.std.proofs.Common.{◌≡◌, ◌≢◌, ℕ, zero, suc, ◌+◌, ◌<◌, ◌↔◌, List, [], ◌∷◌, length, set, sym, refl, ap, ◌∙◌, subst, inl, inr, arith}
+use Rattle.std.proofs.Common.{length-set, get_or-set_same, get_or-set_other}
 use Rattle.std.proofs.lemmas.Bool.{cases_lt}
 use Rattle.std.proofs.lemmas.List.{get_or_past}
 use mathlib.Core.Option.{some, some-injective, some-ne-none}
@@ -98,7 +99,8 @@ module _ (sites : List Site) (words todo held : List ℕ) (quota : ℕ) (h : Can
 
 -- how a tree without locks begins
 pub free_begins : (sites : List Site) (words todo held : List ℕ) → CanOpen sites words todo held
-    → Free (record { sites = sites; words = words; todo = todo }) (opening words [] (fresh_view (record { sites = sites; words = words; todo = todo }) held 0 todo))
+    → Free (record { sites = sites; words = words; todo = todo }) (opening words []
+    (fresh_view (record { sites = sites; words = words; todo = todo }) held 0 todo))
 free_begins sites words todo held h = record {
   kept = kept_begins sites words todo held 0 h words refl (λ i n. refl);
   unlocked =

@@ -142,11 +142,13 @@ module _ (o : Opening) (s : State (Unit {0}) View) (h : Kept o s) where
           seen = λ x p. (body_now x).0 (k.seen x (in_times x v.seen p));
           private = λ c j p l. k.memory c j (in_times c v.held p) l;
           told = λ key place p. tells o s h id v at place key
-              (place_kept (at_of s.words) (at_of s.words) 0 1 (IsIn (cells_now o s.views)) (IsCell o h.cells) key place (λ c q. (cell_now c).1 q) (λ c q. refl) p);
+              (place_kept (at_of s.words) (at_of s.words) 0 1 (IsIn (cells_now o s.views)) (IsCell o h.cells) key place (λ c q. (cell_now c).1 q)
+              (λ c q. refl) p);
         };
   }
     where
-      sums : (x : ℕ) (views : List View) → sum_of (λ (u : View). times x (u.todo ++ u.done)) views ≡ sum_of (λ (u : View). times x u.todo + times x u.done) views
+      sums : (x : ℕ) (views : List View) → sum_of (λ (u : View). times x (u.todo ++ u.done)) views ≡ sum_of
+          (λ (u : View). times x u.todo + times x u.done) views
       sums x [] = refl
       sums x (u ∷ us) = let a = times-append x u.todo u.done in let r = sums x us in omega arith
 
@@ -155,7 +157,8 @@ module _ (o : Opening) (s : State (Unit {0}) View) (h : Kept o s) where
 
 -- in a tree without locks the other cells are those that passes hold
 free_between : (o : Opening) (s : State (Unit {0}) View) → Free o s → HoldsBetween o (cells_held s.views ++ []) s
-free_between o s f = between o s f.kept (cells_held s.views ++ []) (cells_apart o s f.kept [] (λ c. omega arith) (λ c p q. omega arith) (λ c p. absurd (omega arith)))
+free_between o s f = between o s f.kept (cells_held s.views ++ []) (cells_apart o s f.kept [] (λ c. omega arith) (λ c p q. omega arith)
+    (λ c p. absurd (omega arith)))
 
 -- in a tree with locks they are those, and those that the pool has not given out
 locked_between : (o : Opening) (s : State (Unit {0}) View) → Locked o s → HoldsBetween o (cells_held s.views ++ cells_left s.words s.views) s

@@ -1,5 +1,6 @@
 -- A cell is drawn from the shared pool.
-use Rattle.std.proofs.Common.{◌≡◌, ◌≢◌, ℕ, zero, suc, ◌+◌, ◌-◌, ◌%◌, ◌^◌, ◌<◌, ◌≤◌, List, [], ◌∷◌, length, set, sym, refl, ap, ◌∙◌, subst, arith, length-set, get_or-set_same, get_or-set_other}
+use Rattle.std.proofs.Common.{◌≡◌, ◌≢◌, ℕ, zero, suc, ◌+◌, ◌-◌, ◌%◌, ◌^◌, ◌<◌, ◌≤◌, List, [], ◌∷◌, length, set, sym, refl, ap, ◌∙◌, subst, arith}
+use Rattle.std.proofs.Common.{length-set, get_or-set_same, get_or-set_other}
 use Rattle.std.proofs.Math.Nat.{mod-eq_of_lt}
 use mathlib.Core.Option.{none, some}
 use mathlib.Core.Logic.{dite}
@@ -34,7 +35,8 @@ length_copied memory ws c zero = refl
 length_copied memory ws c (suc j) = length-set (row_copied memory ws c j) (child_place c j) (at_of ws (child_place c j)) ∙ length_copied memory ws c j
 
 -- the words of the row are those
-copied_row : (memory ws : List ℕ) (c n j : ℕ) → j < n → child_place c n ≤ length memory → at_of (row_copied memory ws c n) (child_place c j) ≡ at_of ws (child_place c j)
+copied_row : (memory ws : List ℕ) (c n j : ℕ) → j < n → child_place c n ≤ length memory
+    → at_of (row_copied memory ws c n) (child_place c j) ≡ at_of ws (child_place c j)
 unfolding row_copied
 copied_row memory ws c zero j l inside = absurd (omega arith)
 copied_row memory ws c (suc n) j l inside =

@@ -30,7 +30,8 @@ pub record IsQuiet (o : Opening) (s : State (Unit {0}) View) (v w : View) (us : 
 abbrev pub IsKeptByQuiet : Opening → (State (Unit {0}) View → Type 0) → Type 0
 IsKeptByQuiet o R =
     (s : State (Unit {0}) View) (id : ℕ) (v w : View) (us : List ℕ) → R s → get_elem? s.views id ≡ some v → IsQuiet o s v w us
-    → Kept o (record { words = us; homes = s.homes; views = slice_set s.views id w }) → R (record { words = us; homes = s.homes; views = slice_set s.views id w })
+    → Kept o (record { words = us; homes = s.homes; views = slice_set s.views id w })
+    → R (record { words = us; homes = s.homes; views = slice_set s.views id w })
 
 -- a rule is kept by splits: the new pass gets cells, bodies and quota of the other
 abbrev pub IsKeptBySplits : (State (Unit {0}) View → Type 0) → Type 0

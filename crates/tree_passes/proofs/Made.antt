@@ -1,5 +1,6 @@
 -- Private cells while they are made.
-use Rattle.std.proofs.Common.{◌≡◌, ◌≢◌, ℕ, ◌+◌, ◌-◌, ◌*◌, ◌<◌, ◌≤◌, ◌⊎◌, ◌↔◌, zero, suc, List, [], ◌∷◌, length, drop, take, set, get_or, sym, refl, ap, ◌∙◌, subst, inl, inr, arith, add-one, length-set, get_or-set_same, get_or-set_other}
+use Rattle.std.proofs.Common.{◌≡◌, ◌≢◌, ℕ, ◌+◌, ◌-◌, ◌*◌, ◌<◌, ◌≤◌, ◌⊎◌, ◌↔◌, zero, suc, List, [], ◌∷◌, length, drop, take, set, get_or, sym, refl}
+use Rattle.std.proofs.Common.{ap, ◌∙◌, subst, inl, inr, arith, add-one, length-set, get_or-set_same, get_or-set_other}
 use mathlib.Core.Logic.{dite}
 use native.Mathlib.Decide.{ℕ_discrete}
 use Rattle.octant_code.specs.Space.{Site, octant_of}
@@ -116,7 +117,8 @@ forked sites memory c a b key level x n children words wa wb zeros is_a is_b apa
     (words.children_are a sa ∙ wa) (words.children_are b sb ∙ wb) (λ k l p q. words.children_are k l ∙ zeros k l p q)
 
 -- the first cells are the first, and the first of the rest
-first_and_rest : (spare : List ℕ) (used c : ℕ) → 1 ≤ length spare → ((c ≡ get_or spare 0 0) ⊎ IsIn (take used (drop 1 spare)) c) ↔ IsIn (take (suc used) spare) c
+first_and_rest : (spare : List ℕ) (used c : ℕ) → 1 ≤ length spare → ((c ≡ get_or spare 0 0) ⊎ IsIn (take used (drop 1 spare)) c) ↔ IsIn
+    (take (suc used) spare) c
 first_and_rest [] used c l = absurd (omega arith)
 first_and_rest (d ∷ ds) used c l = ((λ p. p), (λ p. p))
 

@@ -34,7 +34,8 @@ join_total f views id other v u both gone at there =
     omega arith
 
 -- what holds of each view, after a split
-pub each_split : (P : View → Type 0) (views : List View) (id : ℕ) (left right : View) → ((j : ℕ) (u : View) → get_elem? views j ≡ some u → P u) → P left → P right
+pub each_split : (P : View → Type 0) (views : List View) (id : ℕ) (left right : View) → ((j : ℕ) (u : View) → get_elem? views j ≡ some u → P u)
+    → P left → P right
     → (j : ℕ) (u : View) → get_elem? (set views id left ++ right ∷ []) j ≡ some u → P u
 each_split P views id left right each first second j u e =
     ⊎_elim
@@ -43,19 +44,23 @@ each_split P views id left right each first second j u e =
     (at_snoc (set views id left) right u j e)
 
 -- and after a join
-pub each_join : (P : View → Type 0) (views : List View) (id other : ℕ) (both gone : View) → ((j : ℕ) (u : View) → get_elem? views j ≡ some u → P u) → P both → P gone
+pub each_join : (P : View → Type 0) (views : List View) (id other : ℕ) (both gone : View) → ((j : ℕ) (u : View) → get_elem? views j ≡ some u → P u)
+    → P both → P gone
     → (j : ℕ) (u : View) → get_elem? (set (set views id both) other gone) j ≡ some u → P u
 each_join P views id other both gone each first second =
     each_set (λ _ u. P u) (set views id both) other gone (λ j w _ e. each_set (λ _ u. P u) views id both (λ j u _ e. each j u e) first j w e) second
 
 -- the pass that is taken in stood there before
-pub was_there : (views : List View) (id other : ℕ) (both u : View) → ¬ (other ≡ id) → get_elem? (set views id both) other ≡ some u → get_elem? views other ≡ some u
+pub was_there : (views : List View) (id other : ℕ) (both u : View) → ¬ (other ≡ id) → get_elem? (set views id both) other ≡ some u
+    → get_elem? views other ≡ some u
 was_there views id other both u apart there =
-    ⊎_elim (λ (t : (other ≡ id) × (both ≡ u)). absurd (apart t.0)) (λ (t : (other ≢ id) × (get_elem? views other ≡ some u)). t.1) (at_set views id other both u there)
+    ⊎_elim (λ (t : (other ≡ id) × (both ≡ u)). absurd (apart t.0)) (λ (t : (other ≢ id) × (get_elem? views other ≡ some u)). t.1)
+    (at_set views id other both u there)
 
 -- the rule with other views, where the words stay
 with_views : (o : Opening) (s : State (Unit {0}) View) (h : Kept o s) (views : List View) → Parted o h.cells h.bodies views
-    → ((id : ℕ) (v : View) → get_elem? views id ≡ some v → Knows o s.words h.cells h.bodies v) → Kept o record { words = s.words; homes = s.homes; views = views }
+    → ((id : ℕ) (v : View) → get_elem? views id ≡ some v → Knows o s.words h.cells h.bodies v)
+    → Kept o record { words = s.words; homes = s.homes; views = views }
 with_views o s h views p k = record {
   cells = h.cells;
   bodies = h.bodies;

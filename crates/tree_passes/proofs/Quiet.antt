@@ -1,5 +1,6 @@
 -- Steps that publish nothing and touch no lock, under both rules.
-use Rattle.std.proofs.Common.{◌≡◌, ◌≢◌, ℕ, Bool, true, false, ◌<◌, ◌≤◌, ◌⊎◌, List, ◌∷◌, get_or, set, sym, refl, ap, ◌∙◌, subst, inl, inr, arith, length-set, get_or-set_other}
+use Rattle.std.proofs.Common.{◌≡◌, ◌≢◌, ℕ, Bool, true, false, ◌<◌, ◌≤◌, ◌⊎◌, List, ◌∷◌, get_or, set, sym, refl, ap, ◌∙◌, subst, inl, inr, arith}
+use Rattle.std.proofs.Common.{length-set, get_or-set_other}
 use mathlib.Core.Option.{none, some}
 use lib.ListN.{get_elem?}
 use Rattle.atomic_table.specs.Table.{Act, Allows, State, Valid, carried_after, keeps, step, stepped}
@@ -8,6 +9,8 @@ use Rattle.octant_code.specs.Points.{site_at}
 use Rattle.octant_code.specs.Space.{same_coordinates}
 use Rattle.octant_code.proofs.SeenPoints.{same_coordinates_refl, same_coordinates_true}
 use Rattle.bh_model.proofs.Equal.{same_or_not}
+use Rattle.tree_rule.specs.declared.notes.BodyNote.{BodyNote}
+use Rattle.tree_rule.specs.declared.notes.CellNote.{CellNote}
 use Rattle.tree_rule.specs.Words.{at_of, body_word, child_place}
 use Rattle.tree_rule.proofs.Laws.{ACell, NoBody, OneBody, WordIs, word_is}
 use Rattle.tree_passes.specs.declared.view.TheConstants.{POOL_PLACE, ROW_WORDS}
@@ -48,6 +51,16 @@ pub record SameView (v w : View) : Type 0 where
   pub under : w.under ≡ v.under
   pub quota : w.quota ≡ v.quota
 
+-- a view in which only loads, notes and what is seen are others
+only_seen : (v : View) (loads : ℕ) (last : ℕ × ℕ) (cell_notes : List CellNote) (body_notes : List BodyNote) (seen : List ℕ)
+    → SameView v (record v { loads = loads; last = last; cell_notes = cell_notes; body_notes = body_notes; seen = seen })
+only_seen v loads last cell_notes body_notes seen = record {
+  lists = record { todo = refl; done = refl; held = refl; published = refl };
+  locks = refl;
+  under = refl;
+  quota = refl;
+}
+
 module _ (k : Told) where
   abbrev o : Opening
   o = opening_of k
@@ -86,7 +99,7 @@ module _ (k : Told) where
         w,
         keeps,
         tt,
-        reread s holds i id me w at (record { lists = record { todo = refl; done = refl; held = refl; published = refl }; locks = refl; under = refl; quota = refl })
+        reread s holds i id me w at (only_seen me.0 _ _ _ _ _)
             (knows_load o s h id me.0 at i key (there o s h id me.0 at i key place)),
         (
           refl,
@@ -126,7 +139,7 @@ module _ (k : Told) where
         v,
         keeps,
         tt,
-        reread s holds i id me v at (record { lists = record { todo = refl; done = refl; held = refl; published = refl }; locks = refl; under = refl; quota = refl }) k,
+        reread s holds i id me v at (only_seen me.0 _ _ _ _ _) k,
         (refl, refl, λ c j p low is. ap (at_of s.words) is ∙ k.memory c j p low ∙ ap (at_of v.memory) (sym is)),
       )
 
@@ -159,7 +172,7 @@ module _ (k : Told) where
       plain,
       keeps,
       tt,
-      reread s holds i id me plain at (record { lists = record { todo = refl; done = refl; held = refl; published = refl }; locks = refl; under = refl; quota = refl }) knows,
+      reread s holds i id me plain at (only_seen me.0 _ _ _ _ _) knows,
       (refl, λ other q. record { plain = plain; looked = tells other q; hit = λ y e f. absurd (apart y e f); miss = λ _. refl }),
     )
 
@@ -171,7 +184,7 @@ module _ (k : Told) where
           w,
           keeps,
           tt,
-          reread s holds i id me w at (record { lists = record { todo = refl; done = refl; held = refl; published = refl }; locks = refl; under = refl; quota = refl }) (record {
+          reread s holds i id me w at (only_seen me.0 _ _ _ _ _) (record {
             points = knows.points;
             opening = knows.opening;
             long = knows.long;

@@ -1,5 +1,6 @@
 -- Steps on words that are not published: those of cells that a pass holds, of locks, and of the pool.
-use Rattle.std.proofs.Common.{◌≡◌, ◌≢◌, ℕ, ◌+◌, ◌*◌, ◌<◌, ◌≤◌, List, [], length, set, sym, refl, ap, ◌∙◌, subst, inl, inr, arith, length-set, get_or-set_same, get_or-set_other}
+use Rattle.std.proofs.Common.{◌≡◌, ◌≢◌, ℕ, ◌+◌, ◌*◌, ◌<◌, ◌≤◌, List, [], length, set, sym, refl, ap, ◌∙◌, subst, inl, inr, arith, length-set}
+use Rattle.std.proofs.Common.{get_or-set_same, get_or-set_other}
 use mathlib.Core.Option.{some}
 use mathlib.Core.Logic.{dite}
 use native.Mathlib.Decide.{ℕ_discrete}
@@ -71,7 +72,8 @@ module _ (o : Opening) (s : State (Unit {0}) View) (h : Kept o s) (i n : ℕ) (a
   }
 
   stand_aside : StandsFor (site_at o.sites) (at_of later) (at_of later 0) 1 (IsCell o h.cells) (IsBody o h.bodies)
-  stand_aside = subst (λ (z : ℕ). StandsFor (site_at o.sites) (at_of later) z 1 (IsCell o h.cells) (IsBody o h.bodies)) (sym (place_stays 1 0 (TopPlace refl refl)))
+  stand_aside =
+      subst (λ (z : ℕ). StandsFor (site_at o.sites) (at_of later) z 1 (IsCell o h.cells) (IsBody o h.bodies)) (sym (place_stays 1 0 (TopPlace refl refl)))
       (stands_moved (site_at o.sites) (at_of s.words) (at_of later) (at_of s.words 0) 1 (IsCell o h.cells) (IsBody o h.bodies) key_stays
       (λ c k p l. place_stays (8 * at_of s.words (key_place c) + k) (child_place c k) (ChildPlace c k p l refl refl)) h.stand)
 

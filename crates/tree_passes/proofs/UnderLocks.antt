@@ -1,5 +1,6 @@
 -- Published words are loaded and stored under their lock.
-use Rattle.std.proofs.Common.{◌≡◌, ◌≢◌, ℕ, ◌≤◌, cond, eqb, Bool, List, [], ◌∷◌, get_or, set, sym, refl, ap, ◌∙◌, subst, inl, inr, arith, eq-eqb, ne_eqb, length-set, get_or-set_same, get_or-set_other}
+use Rattle.std.proofs.Common.{◌≡◌, ◌≢◌, ℕ, ◌≤◌, cond, eqb, Bool, List, [], ◌∷◌, get_or, set, sym, refl, ap, ◌∙◌, subst, inl, inr, arith, eq-eqb}
+use Rattle.std.proofs.Common.{ne_eqb, length-set, get_or-set_same, get_or-set_other}
 use mathlib.Core.Option.{none}
 use mathlib.Core.Logic.{dite}
 use native.Mathlib.Decide.{ℕ_discrete}
@@ -79,7 +80,8 @@ looks_under o slots id me i key w place lock mine s f len at small =
         refl,
         λ other q. record {
           plain = z;
-          looked = subst (λ (y : ℕ). Looked v i y value z) (same_key o s h id v at i key (there o s h id v at i key place) other q) (looked_load o s h id v at i key (there o s h id v at i key place));
+          looked = subst (λ (y : ℕ). Looked v i y value z) (same_key o s h id v at i key (there o s h id v at i key place) other q)
+              (looked_load o s h id v at i key (there o s h id v at i key place));
           view = refl;
         },
       ),

@@ -8,7 +8,8 @@ use Rattle.tree_rule.specs.Flat.{StandsFor}
 use Rattle.octree.specs.Chain.{ArePair, IsOneOf}
 use Rattle.octree.proofs.Laws.{pair_deeper}
 use Rattle.tree_passes.specs.Making.{HasWritten, IsReady}
-use Rattle.tree_passes.proofs.Made.{eight, forked_first, length_rest, linked_first, one_child, ready_first, ready_rest, rest_is, this_child, two_children, wrote_first, wrote_one}
+use Rattle.tree_passes.proofs.Made.{eight, forked_first, length_rest, linked_first, one_child, ready_first, ready_rest, rest_is, this_child}
+use Rattle.tree_passes.proofs.Made.{two_children, wrote_first, wrote_one}
 use Rattle.tree_passes.proofs.cells.+part_two.Goals.{After-octant-b}
 use Rattle.tree_passes.proofs.cells.+part_two.Goals as goal
 
@@ -59,7 +60,8 @@ part_two-used-requires t c =
           subst (λ (z : List ℕ). IsReady c.args.pass.now.me.0 c.args.table.now.table_id.words z) (sym rest) (ready_rest _ _ _ r.ready),
           (
             (
-                let e : length (take (length c.args.spare.now - 1) (drop 1 c.args.spare.now)) ≡ length c.args.spare.now - 1 = ap length rest ∙ length_rest c.args.spare.now in
+                let e : length (take (length c.args.spare.now - 1) (drop 1 c.args.spare.now)) ≡ length c.args.spare.now - 1 =
+                ap length rest ∙ length_rest c.args.spare.now in
                 omega (arith, r.room, r.pair.shallow)
                 ),
             (
@@ -105,9 +107,11 @@ returns-else-a-b-clause-wrote t c =
 pub returns-else-a-b-clause-stands : goal.returns-else-a-b-clause-stands
 returns-else-a-b-clause-stands t c =
     let d = (goal.at.returns-else-a-b-clause-stands t c).After-octant-b in
-    let k = two_children c.octant-a.result c.octant-b.result c.word_of_body.result c.word_of_body-else-a-b.result c.octant-a.ensures.small c.octant-b.ensures.small
+    let k = two_children c.octant-a.result c.octant-b.result c.word_of_body.result c.word_of_body-else-a-b.result
+    c.octant-a.ensures.small c.octant-b.ensures.small
     c.if-a-b.false in
-    forked_first c.args.points.now c.write_cell-else-a-b.new.pass.me.0.memory c.args.spare.now c.octant-a.result c.octant-b.result c.args.cube.key c.args.cube.level
-    c.args.x c.args.n (set (set eight c.octant-a.result c.word_of_body.result) c.octant-b.result c.word_of_body-else-a-b.result) (some_left t d)
+    forked_first c.args.points.now c.write_cell-else-a-b.new.pass.me.0.memory c.args.spare.now c.octant-a.result c.octant-b.result
+    c.args.cube.key c.args.cube.level c.args.x c.args.n (set (set eight c.octant-a.result c.word_of_body.result) c.octant-b.result c.word_of_body-else-a-b.result)
+    (some_left t d)
     c.write_cell-else-a-b.ensures.words (k.0 ∙ c.word_of_body.ensures) (k.1 ∙ c.word_of_body-else-a-b.ensures) k.2 (octant_x t d) (octant_n t d)
     c.if-a-b.false c.requires.pair

@@ -14,4 +14,5 @@ of_words-requires c =
     let here = sym c.deref.ensures.value in
     subst (λ (z : Opening × List ℕ × List ℕ). Locked z.0 (opening z.1 [] (fresh_view z.0 z.2 c.args.quota z.0.todo)))
     (λ i. (record { sites = points i; words = words i; todo = todo i }, here i, held i))
-    (locked_begins c.args.points.now c.args.words.now.items c.args.todo.now.items c.args.held.now.items c.args.pool c.args.quota c.requires.octree c.requires.pool)
+    (locked_begins c.args.points.now c.args.words.now.items c.args.todo.now.items c.args.held.now.items c.args.pool c.args.quota
+    c.requires.octree c.requires.pool)

@@ -8,5 +8,6 @@ store-requires g c =
     let r = c.requires in (
       search rules,
       search rules,
-      rw r.locks (puts (opening_of c.args.table.now.key) _ _ _ _ _ _ c.args.old _ g.B.Batch.cells g.B.Batch.bodies r.ready.1 r.held.1 r.held.2 r.loaded r.ready.2),
+      rw r.locks (puts (opening_of c.args.table.now.key) _ _ _ _ _ _ c.args.old _ g.B.Batch.cells g.B.Batch.bodies
+          r.ready.1 r.held.1 r.held.2 r.loaded r.ready.2),
     )
