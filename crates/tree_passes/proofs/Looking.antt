@@ -1,5 +1,5 @@
 -- What the word at a published place tells a pass.
-use Rattle.std.proofs.Common.{◌≡◌, ℕ, ◌+◌, ◌<◌, ◌≤◌, ◌⊎◌, List, ◌∷◌, length, sym, refl, ap, ◌∙◌, subst, inl, inr, arith}
+use Rattle.std.proofs.Common.{◌≡◌, ℕ, ◌+◌, ◌*◌, ◌^◌, ◌<◌, ◌≤◌, ◌⊎◌, List, ◌∷◌, length, sym, refl, ap, ◌∙◌, subst, inl, inr, arith}
 use mathlib.Core.Option.{some}
 use mathlib.Core.Logic.{dite}
 use native.Mathlib.Decide.{ℕ_discrete}
@@ -54,6 +54,7 @@ tells_on v w key value p b t d s l h =
     let under : (x : ℕ) → IsUnder key (site_at w.points x) → IsUnder key (site_at v.points x) =
     λ x u. subst (λ (z : List Site). IsUnder key (site_at z x)) p u in
     record {
+      small = h.small;
       nobody = λ e x m u. h.nobody e x (met x m) (under x u);
       other = λ y e x m u. h.other y e x (met x m) (under x u);
       body = λ x e. found_body_on v w key x p t (h.body x e);
@@ -189,8 +190,19 @@ module _ (o : Opening) (s : State (Unit {0}) View) (h : Kept o s) (id : ℕ) (v 
         inside = let t = h.inside d f.0 in let l = k.long in omega arith;
       }
 
+  -- the word is that of a body that has a point, or of a cell of the table
+  small_of : WordIs word → word < 2 ^ 33
+  small_of (NoBody e) = omega arith
+  small_of (OneBody x e) = let q = body_in o s h x (named_body x e).0 in let few = h.opened.points.few in omega arith
+  small_of (ACell d e) =
+      let q = h.inside d (named_cell d e).0 in
+      let l = h.long in
+      let m = h.opened.long in
+      let few = h.opened.few in
+      omega arith
+
   pub tells : Tells v key word
-  tells = record { nobody = nobody; other = other; body = found_body; cell = found_cell }
+  tells = record { small = small_of (word_is word); nobody = nobody; other = other; body = found_body; cell = found_cell }
 
   -- The new view, that it is in order, and what the word tells.
   pub record Answer : Type 0 where

@@ -1,5 +1,5 @@
 -- What a load of a published word teaches its pass, and an exchange that failed.
-use Rattle.std.specs.Prelude.{ℕ, ◌≡◌, ◌≢◌, ◌<◌, List, ◌∷◌, length}
+use Rattle.std.specs.Prelude.{ℕ, ◌^◌, ◌≡◌, ◌≢◌, ◌<◌, List, ◌∷◌, length}
 use Rattle.octant_code.specs.declared.limits.TheConstants.{LEVELS}
 use Rattle.octant_code.specs.Space.{Site, key_of, IsUnder}
 use Rattle.octant_code.specs.Points.{site_at}
@@ -30,6 +30,8 @@ pub record FoundBody (v : View) (key x : ℕ) : Type 0 where
 
 -- What the value of the published word with this key tells a pass.
 pub record Tells (v : View) (key value : ℕ) : Type 0 where
+  -- it is one of the words that name something
+  pub small : value < 2 ^ 33
   -- of an empty word: no body that the pass has done or seen lies under the key
   pub nobody : value ≡ 0 → (x : ℕ) → Met v x → IsUnder key (site_at v.points x) → ⊥
   -- of a word that names a body: no other one that the pass has done or seen lies there
