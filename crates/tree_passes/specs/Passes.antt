@@ -19,9 +19,11 @@ IsCell o cells c = HasCell o.words c ⊎ (1 ≤ cells c)
 abbrev pub IsBody : Opening → (ℕ → ℕ) → ℕ → Type 0
 IsBody o bodies n = HasBody o.words n ⊎ (1 ≤ bodies n)
 
+-- a note of a published cell with its key
 abbrev pub cell_note : ℕ → ℕ → CellNote
 cell_note c key = record { cell = c; key = key }
 
+-- a note that the word at a place named a body
 abbrev pub body_note : ℕ → ℕ → BodyNote
 body_note place n = record { place = place; body = n }
 

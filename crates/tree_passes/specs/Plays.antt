@@ -13,6 +13,7 @@ use Rattle.tree_passes.specs.Counting.{times}
 use Rattle.tree_passes.specs.Passes.{after_publication, KnowsPlace}
 use Rattle.tree_passes.specs.Looks.{Learns, Looked, Sought}
 
+-- what a step sees of a pass: its view, and the slots that it holds, which are none here
 abbrev pub Mine : Type 0
 Mine = Me (Unit {0}) View
 
@@ -63,6 +64,7 @@ pub record LookedUnder (v : View) (i key value : ℕ) (w : View) : Type 0 where
   pub looked : Looked v i key value plain
   pub view : w ≡ record plain { under = (i, value) ∷ v.under }
 
+-- a published word is loaded under its lock
 abbrev pub looked_under : Step (Unit {0}) → Mine → ℕ → Mine → Type 0
 looked_under st m found m' = (m'.1 ≡ m.1) × ((key : ℕ) → KnowsPlace m.0 st.word key → LookedUnder m.0 st.word key found m'.0)
 
@@ -90,5 +92,6 @@ pub record IsDrawn (v : View) (c : ℕ) (w : View) : Type 0 where
   pub small : c < MOST_CELLS
   pub inside : lock_place c < length v.memory
 
+-- a cell is drawn from the pool
 abbrev pub drawn : Step (Unit {0}) → Mine → ℕ → Mine → Type 0
 drawn st m found m' = (m'.1 ≡ m.1) × IsDrawn m.0 found m'.0

@@ -7,6 +7,7 @@ use Rattle.tree_passes.specs.Opening.{Opening}
 use Rattle.tree_passes.specs.Rule.{Free}
 use Rattle.tree_passes.specs.Locks.{Locked}
 
+-- the rule without locks, or the one with them
 abbrev pub RuleOf : Writing → Opening → State (Unit {0}) View → Type 0
 RuleOf ByExchange o = Free o
 RuleOf UnderLocks o = Locked o
