@@ -1,0 +1,4 @@
+//! The search of a point.
+
+use octant_code::{Point, Points};
+use tree_passes::{Pass, Words};

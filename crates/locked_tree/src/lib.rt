@@ -1,0 +1,10 @@
+//! A shared octree whose published words are written under the locks of their cells.
+#![tactic(auto)]
+
+mod find;
+mod insert;
+mod tree;
+mod yard;
+
+pub use tree::{LockedPass, LockedTree, Pool};
+pub use yard::LockedYard;
