@@ -18,15 +18,15 @@ use Rattle.octree.specs.Stored.{AreOctreeWords, word_count}
 use Rattle.tree_passes.specs.declared.view.TheConstants.{POOL_PLACE}
 use Rattle.tree_passes.specs.declared.view.View.{View}
 use Rattle.tree_passes.specs.declared.view.Writing.{Writing}
-use Rattle.tree_passes.specs.declared.view.Writing.TheVariants.{ByExchange}
+use Rattle.tree_passes.specs.declared.view.Writing.TheVariants.{ByExchange, UnderLocks}
 use Rattle.tree_passes.specs.Counting.{times}
 use Rattle.tree_passes.specs.Opening.{Opening, fresh_view}
 use Rattle.tree_passes.specs.Passes.{IsBody, IsCell, Knows}
 use Rattle.tree_passes.specs.Rule.{Free, Kept}
 use Rattle.tree_passes.specs.Rules.{RuleOf}
 use Rattle.tree_passes.specs.Locks.{CellsLock, Holds, IsLock, Locked, RootsLock}
-use Rattle.tree_passes.specs.Ends.{CanOpen, CanPool, IsClosed, NoneLocked}
-use Rattle.tree_passes.proofs.Counts.{in_times, once_times, sum_of-add, sum_of_one, times_in}
+use Rattle.tree_passes.specs.Ends.{AreGivenOut, CanOpen, CanPool, IsClosed, NoneLocked}
+use Rattle.tree_passes.proofs.Counts.{in_times, once_times, sum_of-add, sum_of_none, sum_of_one, times_in}
 use Rattle.tree_passes.proofs.Looking.{body_in}
 use Rattle.tree_passes.proofs.BothRules.{kept_of}
 
@@ -190,6 +190,27 @@ ends_unlocked k o id v ws xs f free = subst NoneLocked f.2
       second = h.unlocked.second;
       third = h.unlocked.third;
       locks = λ c m. h.unlocked.locks c (let a = h.kept.opened.long in let b = h.kept.long in omega arith);
+    }
+
+-- under locks the cells that are reached were given out
+pub ends_given : (k : Writing) (o : Opening) (id : ℕ) (v : View) (ws : List ℕ) (xs : List (Unit {0})) → Final (Seen (RuleOf k o) id v) ws xs
+    → k ≡ UnderLocks → AreGivenOut ws
+ends_given k o id v ws xs f locked = subst AreGivenOut f.2 (given f.0 (subst (λ (z : Writing). RuleOf z o f.0) locked f.1.0))
+  where
+    given : (s : State (Unit {0}) View) → Locked o s → AreGivenOut s.words
+    given s h = record {
+      within = let p = h.pool in omega arith;
+      reached = λ c r.
+          elim ((cell_reached (site_at o.sites) (at_of s.words) (at_of s.words 0) 1 (IsCell o h.kept.cells) (IsBody o h.kept.bodies) h.kept.stand c).1 r) [
+            | inl begun ↦ h.given c begun
+            | inr put ↦ elim (cases_lt c (at_of s.words POOL_PLACE)) [
+              | inl l ↦ l
+              | inr past ↦
+                  let none_has = sum_of_none (λ (u : View). times c u.published) s.views
+                  (λ j u e. dite (ℕ_discrete (times c u.published) 0) (λ z. z) (λ z. absurd (let g = (h.holds j u e).given c (omega arith) in omega arith))) in
+                  absurd (let e = h.kept.parted.cells_are c in omega arith)
+            ]
+          ];
     }
 
 -- closed words are those of an octree once no lock is set

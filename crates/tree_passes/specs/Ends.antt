@@ -9,6 +9,7 @@ use Rattle.tree_rule.specs.Words.{at_of, key_place, lock_place, HasBody, HasCell
 use Rattle.tree_rule.specs.Locks.{AreUnlocked}
 use Rattle.tree_rule.specs.Sound.{BodiesUnder}
 use Rattle.octree.specs.Stored.{AreOctreeWords, StandsWell, word_count}
+use Rattle.tree_passes.specs.declared.view.TheConstants.{POOL_PLACE}
 use Rattle.tree_passes.specs.Opening.{Opening}
 
 -- The words of a canonical octree, bodies that it has not, and cells of the table that it does not reach.
@@ -49,3 +50,8 @@ pub record IsClosed (o : Opening) (done seen ws : List ℕ) : Type 0 where
 -- no lock word and no pool word is set
 abbrev pub NoneLocked : List ℕ → Type 0
 NoneLocked ws = (cells : ℕ) → length ws ≡ word_count cells → AreUnlocked ws cells
+
+-- The pool word tells which cells were given out: the table has them, and all that are reached are among them.
+pub record AreGivenOut (ws : List ℕ) : Type 0 where
+  pub within : word_count (at_of ws POOL_PLACE) ≤ length ws
+  pub reached : (c : ℕ) → HasCell ws c → c < at_of ws POOL_PLACE

@@ -6,7 +6,7 @@ ghost use Rattle.tree_passes.specs.declared.view.TheConstants.{POOL_PLACE};
 ghost use Rattle.tree_passes.specs.declared.view.Writing.TheVariants.{ByExchange, UnderLocks};
 ghost use Rattle.tree_passes.specs.Counting.{times};
 ghost use Rattle.tree_passes.specs.Opening.{fresh_view, opening_of};
-ghost use Rattle.tree_passes.specs.Ends.{CanOpen, CanPool, IsClosed, NoneLocked};
+ghost use Rattle.tree_passes.specs.Ends.{AreGivenOut, CanOpen, CanPool, IsClosed, NoneLocked};
 
 use crate::rule::{Pass, TreeRule};
 use crate::view::{POOL_PLACE, Told, View, Writing};
@@ -89,6 +89,7 @@ pub fn close(tree: Tree, pass: Pass) -> Closed<(), Global>
     ensures full { IsFull result.words }
     ensures closed { IsClosed (opening_of tree.shared.key) pass.me.0.done pass.me.0.seen (slots_items result.words) }
     ensures unlocked { tree.shared.key.writing ≡ ByExchange → NoneLocked (slots_items result.words) }
+    ensures given { tree.shared.key.writing ≡ UnderLocks → AreGivenOut (slots_items result.words) }
 {
     tree.close_with(pass)
 }
