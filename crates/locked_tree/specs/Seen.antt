@@ -3,8 +3,10 @@ use Rattle.std.specs.Prelude.{ℕ, ◌≡◌, ◌+◌, ◌*◌, ◌-◌, ◌^◌
 use Rattle.atomic_table.specs.Seated.{TableId}
 use Rattle.octant_code.specs.Space.{Site}
 use Rattle.octant_code.specs.Points.{ArePoints}
+use Rattle.octant_code.specs.declared.limits.TheConstants.{MOST_BODIES}
 use Rattle.tree_rule.specs.declared.words.TheConstants.{CELLS_OF_ONE, MOST_CELLS}
 use Rattle.octree.specs.Stored.{word_count}
+use Rattle.tree_passes.specs.declared.view.TheConstants.{POOL_PLACE}
 use Rattle.tree_passes.specs.declared.view.View.{View}
 use Rattle.tree_passes.specs.Counting.{times}
 use Rattle.tree_passes.specs.Making.{IsReady}
@@ -56,9 +58,20 @@ abbrev pub HasStock : Pool → ℕ → ℕ → ℕ → Type 0
 HasStock pool.Shared quota cells bodies = CELLS_OF_ONE * bodies ≤ quota
 HasStock pool.Regions quota cells bodies = CELLS_OF_ONE * bodies ≤ cells
 
+-- the stock for so many bodies: cells of a region, and a quota
+abbrev pub stock_of : Pool → ℕ → ℕ × ℕ
+stock_of pool.Shared bodies = (0, CELLS_OF_ONE * bodies)
+stock_of pool.Regions bodies = (CELLS_OF_ONE * bodies, 0)
+
+-- A start that holds and uses so many cells, and the stock for so many bodies, have room in one table. The shared pool begins behind the cells that the
+-- start holds, and regions behind those that it uses.
+abbrev pub HasRoom : Pool → ℕ → ℕ → ℕ → Type 0
+HasRoom pool.Shared held used bodies = held + CELLS_OF_ONE * bodies ≤ MOST_CELLS
+HasRoom pool.Regions held used bodies = used + CELLS_OF_ONE * bodies ≤ MOST_CELLS
+
 -- What a pass keeps between its calls: it holds no lock, and has 21 cells for each body that it is to put in.
 pub record IsAtRest (v : View) (words : ℕ) (from : Pool) (region : List ℕ) : Type 0 where
-  pub some : 0 < words
+  pub some : POOL_PLACE < words
   pub few : words ≤ word_count MOST_CELLS
   pub rule : ArePoints v.points
   pub no_lock : v.locks ≡ []
@@ -75,3 +88,9 @@ pub record YardCounts : Type 0 where
 -- a count that rises, up to the greatest number of 64 bits
 abbrev pub risen : ℕ → ℕ → ℕ
 risen count by = min (count + by) (2 ^ 64 - 1)
+
+-- What a pass counts: it is to put in no more bodies than there may be, and its counts are those of its view, up to the greatest number of 64 bits.
+pub record IsCounted (v : View) (published changes : ℕ) : Type 0 where
+  pub todo_few : length v.todo ≤ MOST_BODIES
+  pub bodies : published ≡ risen 0 (length v.done)
+  pub publications : changes ≡ risen 0 v.changes

@@ -4,15 +4,16 @@ ghost use Rattle.std.specs.Prelude.{◌≡◌, ◌≢◌, ℕ, [], ◌∷◌, �
 ghost use Rattle.octant_code.specs.Points.{site_at};
 ghost use Rattle.tree_passes.specs.Counting.{times, without, without_all};
 ghost use Rattle.tree_passes.specs.Passes.{given_part};
-ghost use Rattle.locked_tree.specs.Seen.{IsOf, PassState, SharedTree};
+ghost use Rattle.octant_code.specs.declared.limits.TheConstants.{MOST_BODIES};
+ghost use Rattle.locked_tree.specs.Seen.{stock_of, IsOf, PassState, SharedTree};
 
 use crate::find::find;
 use crate::insert::insert;
 use cell_pool::Region;
 use octant_code::{OutOfMemory, Point, Points};
+use std::alloc::Global;
 use std::marker::Model;
 use std::sync::{Arc, Wait};
-use std::alloc::Global;
 use tree_passes::{Pass, Tree, join_passes, split_pass};
 use tree_rule::CELLS_OF_ONE;
 
@@ -31,12 +32,15 @@ pub enum Pool {
 pub struct LockedTree {
     pub(crate) table: Tree,
     pub(crate) points: Arc<Points>,
-    // the words that the table was opened with: `close` puts those of the tree there
+    // the words that the table was opened with: closing puts those of the tree there
     pub(crate) words: Vec<u64>,
+    // from this cell on they are 0
+    pub(crate) fresh: u32,
 }
 
 impl Model for LockedTree {
-    ghost use Rattle.std.specs.Prelude.{◌≡◌, ◌<◌, length};
+    ghost use Rattle.std.specs.Prelude.{◌≡◌, ◌≤◌, length};
+    ghost use Rattle.octree.specs.Stored.{IsBlankFrom, word_count};
     ghost use Rattle.std.specs.Arc.{arc_value};
     ghost use Rattle.tree_passes.specs.declared.view.Writing.TheVariants.{UnderLocks};
     ghost use Rattle.tree_passes.specs.Opening.{opening_of};
@@ -46,7 +50,7 @@ impl Model for LockedTree {
 
     ghost view = { λ t. record { table_id = t.table.shared.table_id; opening = opening_of t.table.shared.key } };
 
-    ghost invariant = { λ t. (t.table.shared.key.writing ≡ UnderLocks) × (t.table.shared.table_id.slots ≡ 0) × (arc_value t.points ≡ (opening_of t.table.shared.key).sites) × (length t.words.items ≡ t.table.shared.table_id.words) };
+    ghost invariant = { λ t. (t.table.shared.key.writing ≡ UnderLocks) × (t.table.shared.table_id.slots ≡ 0) × (arc_value t.points ≡ (opening_of t.table.shared.key).sites) × (length t.words.items ≡ t.table.shared.table_id.words) × IsBlankFrom t.words.items t.fresh × (word_count t.fresh ≤ length t.words.items) };
 }
 
 /// The right to put bodies into one shared octree. Contracts see it as a `PassState`: its tree's table
@@ -56,17 +60,32 @@ pub struct LockedPass {
     pub(crate) seat: Pass,
     pub(crate) pool: Pool,
     pub(crate) region: Region,
+    // how many bodies it put in, and how often it published, up to 2^64 - 1
+    pub(crate) published: u64,
+    pub(crate) changes: u64,
 }
 
 impl Model for LockedPass {
     ghost use Rattle.std.specs.Prelude.{◌≡◌, []};
-    ghost use Rattle.locked_tree.specs.Seen.{IsAtRest, PassState, state_of};
+    ghost use Rattle.locked_tree.specs.Seen.{IsAtRest, IsCounted, PassState, state_of};
 
     ghost Value = { PassState };
 
     ghost view = { λ p. state_of p.seat.table_id p.seat.me.0 };
 
-    ghost invariant = { λ p. (p.seat.me.1 ≡ []) × IsAtRest p.seat.me.0 p.seat.table_id.words p.pool p.region.cells };
+    ghost invariant = { λ p. (p.seat.me.1 ≡ []) × IsAtRest p.seat.me.0 p.seat.table_id.words p.pool p.region.cells × IsCounted p.seat.me.0 p.published p.changes };
+}
+
+/// The stock for so many bodies: how many cells of a region, and how large a quota.
+pub(crate) fn stock_for(pool: Pool, bodies: usize) -> (usize, u64)
+    requires few { bodies ≤ MOST_BODIES }
+    ensures { result ≡ stock_of pool bodies }
+{
+    let cells = CELLS_OF_ONE as usize * bodies;
+    match pool {
+        Pool::Shared => (0, cells as u64),
+        Pool::Regions => (cells, 0),
+    }
 }
 
 impl LockedTree {
@@ -86,6 +105,8 @@ impl LockedTree {
             n,
         );
         pass.region.spend(used);
+        pass.published = pass.published.saturating_add(1);
+        pass.changes = pass.changes.saturating_add(1);
     }
 
     /// The body at a point. It waits for nobody, and takes no memory.
@@ -117,20 +138,21 @@ impl LockedTree {
         ensures kept { OnOk result (pass.new ≡ record pass.old { todo = without_all part.now pass.old.todo }) }
         ensures new { IfOk result (λ r. r ≡ record pass.old { todo = part.now; done = []; seen = pass.old.done ++ pass.old.seen; changes = 0; loads = 0; last = (0, 0) }) }
     {
-        let cells = match pass.pool {
-            Pool::Shared => 0,
-            Pool::Regions => CELLS_OF_ONE as usize * part.len(),
-        };
-        let quota = match pass.pool {
-            Pool::Shared => u64::from(CELLS_OF_ONE) * part.len() as u64,
-            Pool::Regions => 0,
-        };
+        let (cells, quota) = stock_for(pass.pool, part.len());
         let region = pass.region.split_off(cells)?;
-        let seat = split_pass(&self.table.shared, &mut pass.seat, region.rest(), part, quota);
+        let seat = split_pass(
+            &self.table.shared,
+            &mut pass.seat,
+            region.rest(),
+            part,
+            quota,
+        );
         Ok(LockedPass {
             seat,
             pool: pass.pool,
             region,
+            published: 0,
+            changes: 0,
         })
     }
 
@@ -141,7 +163,14 @@ impl LockedTree {
         requires empty { from.todo ≡ [] }
         ensures { into.new ≡ record into.old { done = into.old.done ++ from.done; seen = into.old.seen ++ from.seen; changes = into.old.changes + from.changes } }
     {
-        let LockedPass { seat, .. } = from;
+        let LockedPass {
+            seat,
+            published,
+            changes,
+            ..
+        } = from;
+        into.published = into.published.saturating_add(published);
+        into.changes = into.changes.saturating_add(changes);
         join_passes(&self.table.shared, &mut into.seat, seat);
     }
 }

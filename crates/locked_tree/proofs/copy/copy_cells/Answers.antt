@@ -1,0 +1,12 @@
+use Rattle.std.proofs.Common.{◌≡◌, ℕ, arith, subst}
+use Rattle.std.specs.Slots.{slots_items}
+use Rattle.locked_tree.specs.Ends.{AreCopied}
+use Rattle.locked_tree.proofs.Copies.{copied_more, none_copied}
+use Rattle.locked_tree.proofs.copy.copy_cells.Goals as goal
+
+pub loop-cell-init : goal.loop-cell-init
+loop-cell-init c = none_copied _ c.args.out.now c.word.result (omega (arith, c.requires.inside)) c.word.ensures
+
+pub loop-cell-preserved : goal.loop-cell-preserved
+loop-cell-preserved c =
+    copied_more _ c.args.out.now c.loop-cell.out c.copy_cell.new.out c.loop-cell.cell c.loop-cell.invariant c.copy_cell.ensures
