@@ -1,8 +1,9 @@
 -- Private cells while they are made.
-use Rattle.std.proofs.Common.{◌≡◌, ◌≢◌, ℕ, ◌+◌, ◌-◌, ◌*◌, ◌<◌, ◌≤◌, ◌⊎◌, ◌↔◌, zero, suc, List, [], ◌∷◌, length, drop, take, set, get_or, sym, refl}
-use Rattle.std.proofs.Common.{ap, ◌∙◌, subst, inl, inr, arith, add-one, length-set, get_or-set_same, get_or-set_other}
+use Rattle.std.proofs.Common.{◌≡◌, ◌≢◌, ℕ, ◌+◌, ◌-◌, ◌*◌, ◌<◌, ◌≤◌, ◌⊎◌, ◌↔◌, zero, suc, cond, Bool, List, [], ◌∷◌, length, drop, take, set, get_or, sym, refl}
+use Rattle.std.proofs.Common.{ap, ◌∙◌, subst, inl, inr, arith, add-one, length-set, get_or-set_same, get_or-set_other, eq-eqb, ne_eqb}
 use mathlib.Core.Logic.{dite}
 use native.Mathlib.Decide.{ℕ_discrete}
+use Rattle.octant_code.specs.declared.limits.TheConstants.{LEVELS}
 use Rattle.octant_code.specs.Space.{Site, octant_of}
 use Rattle.octant_code.specs.Points.{site_at}
 use Rattle.octant_code.proofs.Keys.{octant-small}
@@ -15,8 +16,39 @@ use Rattle.octree.proofs.Laws.{octant_under, pair_cube}
 use Rattle.tree_passes.specs.declared.view.TheConstants.{KEY_PART, ROW_WORDS}
 use Rattle.tree_passes.specs.declared.view.View.{View}
 use Rattle.tree_passes.specs.Counting.{times}
-use Rattle.tree_passes.specs.Making.{HasCellWords, HasWritten, IsReady}
+use Rattle.tree_passes.specs.Making.{cells_between, HasCellWords, HasWritten, IsReady}
 use Rattle.tree_passes.proofs.Counts.{in_times, same-eq}
+
+-- cells part two points: one where they lie in different octants
+pub parted_here : (s t : Site) (level : ℕ) → level < LEVELS → octant_of s level ≢ octant_of t level → cells_between s t level (LEVELS - level) ≡ 1
+parted_here s t level low apart =
+    let e : LEVELS - level ≡ suc (20 - level) = omega arith in
+    ap (cells_between s t level) e
+    ∙ ap (λ (b : Bool). cond b (suc (cells_between s t (level + 1) (20 - level))) 1) (ne_eqb (octant_of s level) (octant_of t level) apart)
+
+-- and one more than in the octant of both
+pub parted_below : (s t : Site) (level : ℕ) → level < LEVELS → octant_of s level ≡ octant_of t level
+    → cells_between s t level (LEVELS - level) ≡ cells_between s t (level + 1) (LEVELS - (level + 1)) + 1
+parted_below s t level low same =
+    let e : LEVELS - level ≡ suc (LEVELS - (level + 1)) = omega arith in
+    let more : cells_between s t level (suc (LEVELS - (level + 1))) ≡ suc (cells_between s t (level + 1) (LEVELS - (level + 1))) =
+    ap (λ (b : Bool). cond b (suc (cells_between s t (level + 1) (LEVELS - (level + 1)))) 1) (eq-eqb (octant_of s level) (octant_of t level) same) in
+    ap (cells_between s t level) e ∙ omega arith
+
+pub some_between : (s t : Site) (level : ℕ) → level < LEVELS → 1 ≤ cells_between s t level (LEVELS - level)
+some_between s t level low = dite (ℕ_discrete (octant_of s level) (octant_of t level))
+    (λ e. omega (arith, parted_below s t level low e)) (λ e. omega (arith, parted_here s t level low e))
+
+pub few_between : (s t : Site) (level below : ℕ) → cells_between s t level below ≤ below
+few_between s t level zero = omega arith
+few_between s t level (suc below) = dite (ℕ_discrete (octant_of s level) (octant_of t level))
+    (λ e. let is : cells_between s t level (suc below) ≡ suc (cells_between s t (level + 1) below) =
+    ap (λ (b : Bool). cond b (suc (cells_between s t (level + 1) below)) 1) (eq-eqb (octant_of s level) (octant_of t level) e) in
+    let r = few_between s t (level + 1) below in
+    omega arith)
+    (λ e. let is : cells_between s t level (suc below) ≡ 1 =
+    ap (λ (b : Bool). cond b (suc (cells_between s t (level + 1) below)) 1) (ne_eqb (octant_of s level) (octant_of t level) e) in
+    omega arith)
 
 -- what was written in two turns was written
 pub wrote_more : (u v w : View) (xs ys zs : List ℕ) → HasWritten u v xs → HasWritten v w ys → ((c : ℕ) → IsIn xs c → IsIn zs c)

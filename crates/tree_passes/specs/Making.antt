@@ -1,5 +1,6 @@
 -- Cells that a pass makes out of those that it holds, before it publishes them.
-use Rattle.std.specs.Prelude.{ℕ, ◌≡◌, ◌≢◌, ◌<◌, ◌≤◌, List, length}
+use Rattle.std.specs.Prelude.{ℕ, ◌≡◌, ◌≢◌, ◌+◌, ◌<◌, ◌≤◌, zero, suc, cond, eqb, List, length}
+use Rattle.octant_code.specs.Space.{Site, octant_of}
 use Rattle.bh_model.specs.Bodies.{IsIn}
 use Rattle.tree_rule.specs.Words.{at_of, child_place, key_place, lock_place}
 use Rattle.tree_passes.specs.declared.view.TheConstants.{ROW_WORDS}
@@ -23,3 +24,9 @@ pub record HasWritten (v w : View) (cells : List ℕ) : Type 0 where
 pub record HasCellWords (memory : List ℕ) (c : ℕ) (children : List ℕ) (key count : ℕ) : Type 0 where
   pub key_is : at_of memory (key_place c) ≡ key
   pub children_are : (k : ℕ) → k < count → at_of memory (child_place c k) ≡ at_of children k
+
+-- How many cells part two points in a cube of a level that has so many levels below it: one where they lie in different octants, and else one more than
+-- in the octant of both.
+abbrev pub cells_between : Site → Site → ℕ → ℕ → ℕ
+cells_between s t level zero = 0
+cells_between s t level (suc below) = cond (eqb (octant_of s level) (octant_of t level)) (suc (cells_between s t (level + 1) below)) 1

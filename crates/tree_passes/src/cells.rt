@@ -1,18 +1,18 @@
 //! Cells that a pass makes before it publishes them.
 
-ghost use Rattle.std.specs.Prelude.{◌≡◌, ◌+◌, ◌<◌, ◌≤◌, [], ◌∷◌, length, slice_index, slice_set, take};
+ghost use Rattle.std.specs.Prelude.{◌≡◌, ◌+◌, ◌-◌, ◌<◌, ◌≤◌, [], ◌∷◌, length, slice_index, slice_set, take};
 ghost use Rattle.octant_code.specs.Points.{site_at, ArePoints};
 ghost use Rattle.bh_model.specs.Bodies.{IsIn};
 ghost use Rattle.tree_rule.specs.Words.{at_of, cell_word, child_place, lock_place};
 ghost use Rattle.tree_rule.specs.Flat.{StandsFor};
 ghost use Rattle.octree.specs.Chain.{ArePair, IsOneOf};
 ghost use Rattle.tree_passes.specs.Counting.{times};
-ghost use Rattle.tree_passes.specs.Making.{HasCellWords, HasWritten, IsReady};
+ghost use Rattle.tree_passes.specs.Making.{cells_between, HasCellWords, HasWritten, IsReady};
 
 use crate::plays::{Read, Write};
 use crate::rule::{Pass, Words};
 use crate::view::{KEY_PART, ROW_WORDS};
-use octant_code::{LEVELS, Points, octant};
+use octant_code::{LEVELS, Point, Points, octant};
 use tree_rule::{place_of_child, word_of_body, word_of_cell};
 
 /// Stores into a word of a cell that the pass holds: those of its children are 0 to 7, and its key is
@@ -65,6 +65,21 @@ pub struct Cube {
     pub level: u32,
 }
 
+/// How many cells part two points in a cube of a level that holds both.
+pub fn cells_to_part(a: Point, b: Point, level: u32) -> usize
+    requires { level ≤ LEVELS }
+    ensures count { result ≡ cells_between a b level (LEVELS - level) }
+    ensures few { result + level ≤ LEVELS }
+{
+    if level == LEVELS {
+        0
+    } else if octant(a, level) == octant(b, level) {
+        1 + cells_to_part(a, b, level + 1)
+    } else {
+        1
+    }
+}
+
 /// Makes the cells that part the bodies `x` and `n`, which lie in one cube, out of the first of these
 /// cells on. The first is the top one; the result is how many they are. It takes no memory.
 pub fn part_two(
@@ -78,11 +93,12 @@ pub fn part_two(
 ) -> usize
     requires place { pass.old.table_id ≡ table.now.table_id }
     requires ready { IsReady pass.old.me.0 table.now.table_id.words spare.now }
-    requires room { LEVELS ≤ length spare.now + cube.level }
+    requires room { cells_between (site_at points.now x) (site_at points.now n) cube.level (LEVELS - cube.level) ≤ length spare.now }
     requires rule { ArePoints points.now }
     requires pair { ArePair points.now x n cube.key cube.level }
     ensures pass { (pass.new.table_id ≡ pass.old.table_id) × (pass.new.me.1 ≡ pass.old.me.1) }
     ensures wrote { HasWritten pass.old.me.0 pass.new.me.0 (take result spare.now) }
+    ensures count { result ≡ cells_between (site_at points.now x) (site_at points.now n) cube.level (LEVELS - cube.level) }
     ensures some { 1 ≤ result }
     ensures few { result + cube.level ≤ LEVELS }
     ensures stands { StandsFor (site_at points.now) (at_of pass.new.me.0.memory) (cell_word (slice_index spare.now 0)) cube.key (IsIn (take result spare.now)) (IsOneOf x n) }

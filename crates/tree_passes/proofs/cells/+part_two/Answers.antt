@@ -1,4 +1,5 @@
 use Rattle.std.proofs.Common.{arith, ◌≡◌, ◌+◌, ◌-◌, ◌*◌, ◌<◌, ◌≤◌, ◌∙◌, ℕ, List, length, take, drop, get_or, set, ap, sym, subst}
+use Rattle.octant_code.specs.declared.limits.TheConstants.{LEVELS}
 use Rattle.octant_code.specs.Space.{octant_of}
 use Rattle.octant_code.specs.Points.{site_at}
 use Rattle.octant_code.proofs.Keys.{key-next-fits}
@@ -7,9 +8,9 @@ use Rattle.tree_rule.specs.Words.{at_of, cell_word, lock_place}
 use Rattle.tree_rule.specs.Flat.{StandsFor}
 use Rattle.octree.specs.Chain.{ArePair, IsOneOf}
 use Rattle.octree.proofs.Laws.{pair_deeper}
-use Rattle.tree_passes.specs.Making.{HasWritten, IsReady}
-use Rattle.tree_passes.proofs.Made.{eight, forked_first, length_rest, linked_first, one_child, ready_first, ready_rest, rest_is, this_child}
-use Rattle.tree_passes.proofs.Made.{two_children, wrote_first, wrote_one}
+use Rattle.tree_passes.specs.Making.{cells_between, HasWritten, IsReady}
+use Rattle.tree_passes.proofs.Made.{eight, forked_first, length_rest, linked_first, one_child, parted_below, parted_here, ready_first, ready_rest, rest_is}
+use Rattle.tree_passes.proofs.Made.{some_between, this_child, two_children, wrote_first, wrote_one}
 use Rattle.tree_passes.proofs.cells.+part_two.Goals.{After-octant-b}
 use Rattle.tree_passes.proofs.cells.+part_two.Goals as goal
 
@@ -23,7 +24,13 @@ octant_n t c = c.octant-b.ensures.value ∙ ap (λ s. octant_of s c.args.cube.le
 
 -- there is a cell left
 some_left : (t : ℕ) (c : After-octant-b t) → 1 ≤ length c.args.spare.now
-some_left t c = omega (arith, c.requires.room, c.requires.pair.shallow)
+some_left t c = omega (arith, c.requires.room, some_between (site_at c.args.points.now c.args.x) (site_at c.args.points.now c.args.n) _ c.requires.pair.shallow)
+
+-- one more cell parts the bodies than in the octant of both
+more_below : (t : ℕ) (c : After-octant-b t) → c.octant-a.result ≡ c.octant-b.result
+    → cells_between (site_at c.args.points.now c.args.x) (site_at c.args.points.now c.args.n) c.args.cube.level (LEVELS - c.args.cube.level)
+    ≡ cells_between (site_at c.args.points.now c.args.x) (site_at c.args.points.now c.args.n) (c.args.cube.level + 1) (LEVELS - (c.args.cube.level + 1)) + 1
+more_below t c same = parted_below _ _ _ c.requires.pair.shallow (sym (octant_x t c) ∙ same ∙ octant_n t c)
 
 -- the first cell is the pass's
 first_cell : (t : ℕ) (c : After-octant-b t) → lock_place (get_or c.args.spare.now 0 0) < c.args.table.now.table_id.words
@@ -62,7 +69,7 @@ part_two-used-requires t c =
             (
                 let e : length (take (length c.args.spare.now - 1) (drop 1 c.args.spare.now)) ≡ length c.args.spare.now - 1 =
                 ap length rest ∙ length_rest c.args.spare.now in
-                omega (arith, r.room, r.pair.shallow)
+                omega (arith, r.room, more_below t d c.if-a-b.true)
                 ),
             (
               r.rule,
@@ -73,11 +80,31 @@ part_two-used-requires t c =
       ),
     )
 
+pub bounds-spare-1 : goal.bounds-spare-1
+bounds-spare-1 t c =
+    let d = (goal.at.bounds-spare-1 t c).After-octant-b in
+    omega (arith, c.requires.room, more_below t d c.if-a-b.true, c.part_two-used.ensures.some, c.part_two-used.ensures.count)
+
+pub write_cell-requires-else-a-b-clause-held : goal.write_cell-requires-else-a-b-clause-held
+write_cell-requires-else-a-b-clause-held t c =
+    let d = (goal.at.write_cell-requires-else-a-b-clause-held t c).After-octant-b in
+    (ready_first _ _ _ c.requires.ready (some_left t d)).0
+
 pub write_cell-requires-clause-inside : goal.write_cell-requires-clause-inside
 write_cell-requires-clause-inside t c = first_cell t (goal.at.write_cell-requires-clause-inside t c).After-octant-b
 
 pub write_cell-requires-else-a-b-clause-inside : goal.write_cell-requires-else-a-b-clause-inside
 write_cell-requires-else-a-b-clause-inside t c = first_cell t (goal.at.write_cell-requires-else-a-b-clause-inside t c).After-octant-b
+
+pub returns-then-a-b-clause-count : goal.returns-then-a-b-clause-count
+returns-then-a-b-clause-count t c =
+    let d = (goal.at.returns-then-a-b-clause-count t c).After-octant-b in
+    omega (arith, more_below t d c.if-a-b.true, c.part_two-used.ensures.count)
+
+pub returns-else-a-b-clause-count : goal.returns-else-a-b-clause-count
+returns-else-a-b-clause-count t c =
+    let d = (goal.at.returns-else-a-b-clause-count t c).After-octant-b in
+    sym (parted_here _ _ _ c.requires.pair.shallow (λ e. c.if-a-b.false (octant_x t d ∙ e ∙ sym (octant_n t d))))
 
 pub returns-then-a-b-clause-wrote : goal.returns-then-a-b-clause-wrote
 returns-then-a-b-clause-wrote t c =
