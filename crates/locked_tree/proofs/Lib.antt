@@ -1,3 +1,4 @@
 mod Copies
 mod Rests
 mod Starts
+mod Puts

@@ -1,8 +1,20 @@
--- What an insertion under locks leaves.
-use Rattle.std.specs.Prelude.{ℕ, ◌≡◌, ◌+◌, ◌≤◌, List, [], ◌∷◌, length}
-use Rattle.tree_rule.specs.declared.words.TheConstants.{CELLS_OF_ONE}
+-- What an insertion under locks goes by, and what it leaves.
+use Rattle.std.specs.Prelude.{ℕ, ◌≡◌, ◌+◌, ◌<◌, ◌≤◌, List, [], ◌∷◌, length, take}
+use Rattle.octant_code.specs.declared.limits.TheConstants.{LEVELS}
+use Rattle.octant_code.specs.Space.{Site, key_of}
+use Rattle.octant_code.specs.Points.{site_at, ArePoints}
+use Rattle.tree_rule.specs.declared.words.TheConstants.{CELLS_OF_ONE, MOST_CELLS}
+use Rattle.tree_rule.specs.Words.{lock_place}
+use Rattle.octree.specs.Stored.{word_count}
+use Rattle.tree_passes.specs.declared.view.TheConstants.{POOL_PLACE}
 use Rattle.tree_passes.specs.declared.view.View.{View}
 use Rattle.tree_passes.specs.Counting.{times, without}
+use Rattle.tree_passes.specs.Locks.{IsLockOf}
+use Rattle.tree_passes.specs.Passes.{KnowsPlace}
+use Rattle.tree_passes.specs.Turns.{Descends}
+use Rattle.locked_tree.specs.declared.insert.Spot.{Spot}
+use Rattle.locked_tree.specs.declared.insert.Turn.{Turn}
+use Rattle.locked_tree.specs.declared.insert.Turn.TheVariants as turn
 use Rattle.locked_tree.specs.declared.tree.Pool.{Pool}
 use Rattle.locked_tree.specs.declared.tree.Pool.TheVariants as pool
 
@@ -16,7 +28,7 @@ abbrev pub AreTaken : Pool → List ℕ → Type 0
 AreTaken pool.Shared cells = cells ≡ []
 AreTaken pool.Regions cells = length cells ≤ CELLS_OF_ONE
 
--- Body n has gone from todo to done by one publication, with cells of these or of the shared pool. No lock is held, and the other lists stay.
+-- Body n has gone from todo to done by one publication, with cells of these or of the shared pool. The other lists and the locks stay.
 pub record IsPutIn (v w : View) (n : ℕ) (from : Pool) (cells : List ℕ) : Type 0 where
   pub points : w.points ≡ v.points
   pub long : length w.memory ≡ length v.memory
@@ -27,5 +39,34 @@ pub record IsPutIn (v w : View) (n : ℕ) (from : Pool) (cells : List ℕ) : Typ
   pub done : w.done ≡ n ∷ v.done
   pub seen : w.seen ≡ v.seen
   pub changes : w.changes ≡ v.changes + 1
-  pub no_lock : w.locks ≡ []
-  pub none_under : w.under ≡ []
+  pub locks : w.locks ≡ v.locks
+
+-- The pass has come to the published word of a cube that holds the point of body n, which it is to put in. It knows where the word and its lock stand.
+pub record IsAt (v : View) (words : ℕ) (sites : List Site) (n : ℕ) (s : Spot) : Type 0 where
+  pub points : v.points ≡ sites
+  pub long : length v.memory ≡ words
+  pub some : POOL_PLACE < words
+  pub few : words ≤ word_count MOST_CELLS
+  pub rule : ArePoints sites
+  pub n_in : n < length sites
+  pub todo : 1 ≤ times n v.todo
+  pub low : s.level ≤ LEVELS
+  pub inside : s.word < words
+  pub known : KnowsPlace v s.word (key_of (site_at sites n) s.level)
+  pub lock_inside : s.lock < words
+  pub lock_is : IsLockOf s.word s.lock
+
+-- What a visit of a word leads to: body n is put in, with so many of the cells, or the way goes on below a cell that the word names.
+abbrev pub LeadsTo : View → View → ℕ → Pool → List ℕ → ℕ → Turn → Type 0
+LeadsTo v w n from spare key (turn.Done used) = (used ≤ length spare) × IsPutIn v w n from (take used spare)
+LeadsTo v w n from spare key (turn.Below d) = Descends v w key d
+
+-- The pass drew these cells from the shared pool: each is new to it, and nothing else of it changed but words of theirs.
+pub record HasDrawn (v w : View) (cells : List ℕ) : Type 0 where
+  pub view : w ≡ record v { held = w.held; quota = w.quota; memory = w.memory }
+  pub long : length w.memory ≡ length v.memory
+  pub held : (c : ℕ) → times c w.held ≡ times c cells + times c v.held
+  pub quota : w.quota + length cells ≡ v.quota
+  pub fresh : (c : ℕ) → 1 ≤ times c cells → times c v.held ≡ 0
+  pub once : (c : ℕ) → times c cells ≤ 1
+  pub inside : (c : ℕ) → 1 ≤ times c cells → lock_place c < length v.memory

@@ -1,19 +1,228 @@
 //! Insertion under locks.
 
-ghost use Rattle.std.specs.Prelude.{◌≡◌, [], ◌<◌, ◌≤◌, length, take};
-ghost use Rattle.octant_code.specs.Points.{ArePoints};
+ghost use Rattle.std.specs.Prelude.{◌≡◌, [], ◌∷◌, ◌-◌, ◌<◌, ◌≤◌, true, length, take};
+ghost use Rattle.octant_code.specs.declared.limits.TheConstants.{LEVELS};
+ghost use Rattle.octant_code.specs.Space.{key_of};
+ghost use Rattle.octant_code.specs.Points.{site_at};
 ghost use Rattle.octree.specs.Stored.{word_count};
+ghost use Rattle.tree_passes.specs.declared.view.TheConstants.{POOL_PLACE};
 ghost use Rattle.tree_passes.specs.declared.view.Writing.TheVariants.{UnderLocks};
-ghost use Rattle.tree_passes.specs.Counting.{times};
-ghost use Rattle.tree_passes.specs.Making.{IsReady};
-ghost use Rattle.tree_rule.specs.declared.words.TheConstants.{MOST_CELLS};
+ghost use Rattle.tree_passes.specs.Counting.{Has, times};
+ghost use Rattle.tree_passes.specs.Locks.{IsLock};
+ghost use Rattle.tree_passes.specs.Making.{cells_between, IsReady};
+ghost use Rattle.tree_passes.specs.Turns.{IsInserted, IsThere};
+ghost use Rattle.tree_rule.specs.Words.{body_word};
+ghost use Rattle.tree_rule.specs.declared.words.TheConstants.{CELLS_OF_ONE, MOST_CELLS};
+ghost use Rattle.locked_tree.specs.declared.tree.Pool.TheVariants as pool_is;
 ghost use Rattle.locked_tree.specs.Seen.{HasStock};
-ghost use Rattle.locked_tree.specs.Inserting.{IsPutIn};
+ghost use Rattle.locked_tree.specs.Inserting.{HasDrawn, IsAt, IsPutIn, LeadsTo};
 
 use crate::tree::Pool;
-use octant_code::Points;
+use octant_code::{LEVELS, Point, Points, key_at, octant};
+use std::hint;
 use std::sync::Wait;
-use tree_passes::{Pass, Words};
+use tree_passes::{
+    Cube, Pass, ROOT_LOCK, Words, cells_to_part, draw_cell, load, load_locked, part_two,
+    store_locked, try_lock, unlock,
+};
+use tree_rule::{Named, named_by, place_of_child, place_of_lock, word_of_body, word_of_cell};
+
+// A published word on the way down: its place, that of its lock, and the level of its cube.
+#[derive(Clone, Copy, Drop)]
+pub struct Spot {
+    pub word: usize,
+    pub lock: usize,
+    pub level: u32,
+}
+
+// What a visit of a published word leads to: the body is in, with so many of the spare cells, or the
+// way goes on below a cell.
+#[derive(Clone, Copy, Drop)]
+pub enum Turn {
+    Done(usize),
+    Below(u32),
+}
+
+/// Takes a lock, and waits for it as long as another pass holds it.
+#[inline]
+fn take_lock<R: Wait>(rt: &R, table: &Words, pass: &mut Pass, lock: usize)
+    requires locks { table.now.key.writing ≡ UnderLocks }
+    requires place { pass.old.table_id ≡ table.now.table_id }
+    requires long { length pass.old.me.0.memory ≡ table.now.table_id.words }
+    requires word { lock < table.now.table_id.words }
+    requires lock { IsLock lock }
+    requires none_held { pass.old.me.0.locks ≡ [] }
+    ensures pass { (pass.new.table_id ≡ pass.old.table_id) × (pass.new.me.1 ≡ pass.old.me.1) }
+    ensures taken { pass.new.me.0 ≡ record pass.old.me.0 { locks = lock ∷ [] } }
+{
+    for _ in rt.forever() {
+        if try_lock(table, pass, lock) {
+            return;
+        }
+        hint::spin_loop();
+    }
+    unreachable!()
+}
+
+/// Draws so many cells from the shared pool.
+fn draw_cells(table: &Words, pass: &mut Pass, count: usize) -> [u32; 21]
+    requires locks { table.now.key.writing ≡ UnderLocks }
+    requires place { pass.old.table_id ≡ table.now.table_id }
+    requires pool { POOL_PLACE < table.now.table_id.words }
+    requires few { count ≤ CELLS_OF_ONE }
+    requires quota { count ≤ pass.old.me.0.quota }
+    ensures pass { (pass.new.table_id ≡ pass.old.table_id) × (pass.new.me.1 ≡ pass.old.me.1) }
+    ensures long { length result ≡ CELLS_OF_ONE }
+    ensures drawn { HasDrawn pass.old.me.0 pass.new.me.0 (take count result) }
+{
+    let mut cells = [0u32; 21];
+    for k in 0..count {
+        cells[k] = draw_cell(table, pass);
+    }
+    cells
+}
+
+/// Puts the body over body `x`, which the word names, with as many of these cells as part the two.
+/// The pass holds the lock. Returns how many they are.
+fn put_over(
+    table: &Words,
+    pass: &mut Pass,
+    spare: &[u32],
+    points: &Points,
+    x: u32,
+    n: u32,
+    spot: Spot,
+) -> usize
+    requires locks { table.now.key.writing ≡ UnderLocks }
+    requires place { pass.old.table_id ≡ table.now.table_id }
+    requires at { IsAt pass.old.me.0 table.now.table_id.words points.now n spot }
+    requires held { pass.old.me.0.locks ≡ spot.lock ∷ [] }
+    requires loaded { Has pass.old.me.0.under (spot.word, body_word x) }
+    requires there { IsThere pass.old.me.0 spot.word (key_of (site_at points.now n) spot.level) x }
+    requires ready { IsReady pass.old.me.0 table.now.table_id.words spare.now }
+    requires room { cells_between (site_at points.now x) (site_at points.now n) spot.level (LEVELS - spot.level) ≤ length spare.now }
+    ensures pass { (pass.new.table_id ≡ pass.old.table_id) × (pass.new.me.1 ≡ pass.old.me.1) }
+    ensures count { result ≡ cells_between (site_at points.now x) (site_at points.now n) spot.level (LEVELS - spot.level) }
+    ensures put { IsInserted pass.old.me.0 pass.new.me.0 n (take result spare.now) }
+{
+    let cube = Cube {
+        key: key_at(points.at(n), spot.level),
+        level: spot.level,
+    };
+    let used = part_two(table, pass, spare, points, x, n, cube);
+    let top = word_of_cell(spare[0]);
+    store_locked(table, pass, spot.word, word_of_body(x), top, &spare[..used], &[n]);
+    used
+}
+
+/// Puts the body over body `x` with cells of the shared pool, as many as part the two.
+fn draw_over(table: &Words, pass: &mut Pass, points: &Points, x: u32, n: u32, spot: Spot)
+    requires locks { table.now.key.writing ≡ UnderLocks }
+    requires place { pass.old.table_id ≡ table.now.table_id }
+    requires at { IsAt pass.old.me.0 table.now.table_id.words points.now n spot }
+    requires held { pass.old.me.0.locks ≡ spot.lock ∷ [] }
+    requires loaded { Has pass.old.me.0.under (spot.word, body_word x) }
+    requires there { IsThere pass.old.me.0 spot.word (key_of (site_at points.now n) spot.level) x }
+    requires quota { CELLS_OF_ONE ≤ pass.old.me.0.quota }
+    ensures pass { (pass.new.table_id ≡ pass.old.table_id) × (pass.new.me.1 ≡ pass.old.me.1) }
+    ensures put { IsPutIn pass.old.me.0 pass.new.me.0 n pool_is.Shared [] }
+{
+    let count = cells_to_part(points.at(x), points.at(n), spot.level);
+    let cells = draw_cells(table, pass, count);
+    put_over(table, pass, &cells[..count], points, x, n, spot);
+}
+
+/// Puts the body over body `x` with cells of where the pass has them. Returns how many of the spare
+/// cells it took.
+fn cover(
+    table: &Words,
+    pass: &mut Pass,
+    pool: Pool,
+    spare: &[u32],
+    points: &Points,
+    x: u32,
+    n: u32,
+    spot: Spot,
+) -> usize
+    requires locks { table.now.key.writing ≡ UnderLocks }
+    requires place { pass.old.table_id ≡ table.now.table_id }
+    requires at { IsAt pass.old.me.0 table.now.table_id.words points.now n spot }
+    requires held { pass.old.me.0.locks ≡ spot.lock ∷ [] }
+    requires loaded { Has pass.old.me.0.under (spot.word, body_word x) }
+    requires there { IsThere pass.old.me.0 spot.word (key_of (site_at points.now n) spot.level) x }
+    requires ready { IsReady pass.old.me.0 table.now.table_id.words spare.now }
+    requires stock { HasStock pool pass.old.me.0.quota (length spare.now) 1 }
+    ensures pass { (pass.new.table_id ≡ pass.old.table_id) × (pass.new.me.1 ≡ pass.old.me.1) }
+    ensures few { result ≤ length spare.now }
+    ensures put { IsPutIn pass.old.me.0 pass.new.me.0 n pool (take result spare.now) }
+{
+    match pool {
+        Pool::Shared => {
+            draw_over(table, pass, points, x, n, spot);
+            0
+        }
+        Pool::Regions => put_over(table, pass, spare, points, x, n, spot),
+    }
+}
+
+/// Looks at the word again under its lock, and puts the body there unless it names a cell.
+fn settle(
+    table: &Words,
+    pass: &mut Pass,
+    pool: Pool,
+    spare: &[u32],
+    points: &Points,
+    n: u32,
+    spot: Spot,
+) -> Turn
+    requires locks { table.now.key.writing ≡ UnderLocks }
+    requires place { pass.old.table_id ≡ table.now.table_id }
+    requires at { IsAt pass.old.me.0 table.now.table_id.words points.now n spot }
+    requires held { pass.old.me.0.locks ≡ spot.lock ∷ [] }
+    requires ready { IsReady pass.old.me.0 table.now.table_id.words spare.now }
+    requires stock { HasStock pool pass.old.me.0.quota (length spare.now) 1 }
+    ensures pass { (pass.new.table_id ≡ pass.old.table_id) × (pass.new.me.1 ≡ pass.old.me.1) }
+    ensures turn { LeadsTo pass.old.me.0 pass.new.me.0 n pool spare.now (key_of (site_at points.now n) spot.level) result }
+{
+    match named_by(load_locked(table, pass, spot.word)) {
+        Named::Nothing => {
+            store_locked(table, pass, spot.word, 0, word_of_body(n), &[], &[n]);
+            Turn::Done(0)
+        }
+        Named::Body(x) => Turn::Done(cover(table, pass, pool, spare, points, x, n, spot)),
+        Named::Cell(cell) => Turn::Below(cell),
+    }
+}
+
+/// Visits a published word: one that names no cell is looked at again and written under its lock.
+fn visit<R: Wait>(
+    rt: &R,
+    table: &Words,
+    pass: &mut Pass,
+    pool: Pool,
+    spare: &[u32],
+    points: &Points,
+    n: u32,
+    spot: Spot,
+) -> Turn
+    requires locks { table.now.key.writing ≡ UnderLocks }
+    requires place { pass.old.table_id ≡ table.now.table_id }
+    requires at { IsAt pass.old.me.0 table.now.table_id.words points.now n spot }
+    requires no_lock { (pass.old.me.0.locks ≡ []) × (pass.old.me.0.under ≡ []) }
+    requires ready { IsReady pass.old.me.0 table.now.table_id.words spare.now }
+    requires stock { HasStock pool pass.old.me.0.quota (length spare.now) 1 }
+    ensures pass { (pass.new.table_id ≡ pass.old.table_id) × (pass.new.me.1 ≡ pass.old.me.1) }
+    ensures no_lock { (pass.new.me.0.locks ≡ []) × (pass.new.me.0.under ≡ []) }
+    ensures turn { LeadsTo pass.old.me.0 pass.new.me.0 n pool spare.now (key_of (site_at points.now n) spot.level) result }
+{
+    if let Named::Cell(cell) = named_by(load(table, pass, spot.word)) {
+        return Turn::Below(cell);
+    }
+    take_lock(rt, table, pass, spot.lock);
+    let turn = settle(table, pass, pool, spare, points, n, spot);
+    unlock(table, pass, spot.lock);
+    turn
+}
 
 /// Inserts a body of the todo list. Returns how many of the spare cells it took, from the front; with
 /// the shared pool none.
@@ -28,7 +237,7 @@ pub fn insert<R: Wait>(
 ) -> usize
     requires locks { table.now.key.writing ≡ UnderLocks }
     requires place { pass.old.table_id ≡ table.now.table_id }
-    requires some { 0 < table.now.table_id.words }
+    requires some { POOL_PLACE < table.now.table_id.words }
     requires few { table.now.table_id.words ≤ word_count MOST_CELLS }
     requires points { pass.old.me.0.points ≡ points.now }
     requires no_lock { (pass.old.me.0.locks ≡ []) × (pass.old.me.0.under ≡ []) }
@@ -37,8 +246,28 @@ pub fn insert<R: Wait>(
     requires ready { IsReady pass.old.me.0 table.now.table_id.words spare.now }
     requires stock { HasStock pool pass.old.me.0.quota (length spare.now) 1 }
     ensures pass { (pass.new.table_id ≡ pass.old.table_id) × (pass.new.me.1 ≡ pass.old.me.1) }
+    ensures no_lock { (pass.new.me.0.locks ≡ []) × (pass.new.me.0.under ≡ []) }
     ensures few { result ≤ length spare.now }
     ensures done { IsPutIn pass.old.me.0 pass.new.me.0 n pool (take result spare.now) }
 {
-    todo!()
+    let _rule = points.len();
+    let p = points.at(n);
+    let mut spot = Spot {
+        word: 0,
+        lock: ROOT_LOCK,
+        level: 0,
+    };
+    for level in 0..LEVELS + 1 {
+        match visit(rt, table, pass, pool, spare, points, n, spot) {
+            Turn::Done(used) => return used,
+            Turn::Below(cell) => {
+                spot = Spot {
+                    word: place_of_child(cell, octant(p, level)),
+                    lock: place_of_lock(cell),
+                    level: level + 1,
+                };
+            }
+        }
+    }
+    unreachable!()
 }

@@ -2,9 +2,12 @@
 
 ghost use Rattle.std.specs.Prelude.{◌≡◌, ◌≢◌, ℕ, [], ◌∷◌, ◌+◌, ◌<◌, ◌≤◌, ◌++◌, length, IfNone, IfOk, IfSome, OnErr, OnOk};
 ghost use Rattle.octant_code.specs.Points.{site_at};
+ghost use Rattle.octant_code.specs.Space.{IsUnder};
+ghost use Rattle.tree_rule.specs.Words.{body_word};
 ghost use Rattle.tree_passes.specs.Counting.{times, without, without_all};
 ghost use Rattle.tree_passes.specs.Passes.{given_part};
 ghost use Rattle.octant_code.specs.declared.limits.TheConstants.{MOST_BODIES};
+ghost use Rattle.locked_tree.specs.Finding.{NamesNoneAt};
 ghost use Rattle.locked_tree.specs.Seen.{stock_of, IsOf, PassState, SharedTree};
 
 use crate::find::find;
@@ -121,6 +124,9 @@ impl LockedTree {
         ensures none { IfNone result ((x : ℕ) → 1 ≤ times x pass.old.done + times x pass.old.seen → site_at self.now.opening.sites x ≢ p) }
         ensures stays { IfNone result (pass.new ≡ record pass.old { loads = pass.new.loads; last = pass.new.last }) }
         ensures loaded { pass.old.loads < pass.new.loads }
+        ensures under { IsUnder pass.new.last.0 p }
+        ensures names { IfSome result (λ b. pass.new.last.1 ≡ body_word b) }
+        ensures names_none { IfNone result (NamesNoneAt self.now.opening.sites p pass.new.last.1) }
     {
         find(&self.table.shared, &mut pass.seat, &self.points, p)
     }

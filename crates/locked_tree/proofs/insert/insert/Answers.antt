@@ -1,0 +1,24 @@
+use Rattle.std.proofs.Common.{arith, refl, ap, sym, ◌∙◌}
+use Rattle.octant_code.specs.Space.{octant_of}
+use Rattle.tree_passes.proofs.Laws.{still_on, still_refl}
+use Rattle.locked_tree.proofs.Puts.{at_below, at_root}
+use Rattle.locked_tree.proofs.insert.insert.Goals as goal
+
+pub loop-level-init : goal.loop-level-init
+loop-level-init g c =
+    let r = c.requires in
+    (refl, refl, r.no_lock, refl, at_root _ _ _ _ r.points r.ready.long r.some r.few c.len-rule.ensures.rule r.n_in r.todo, still_refl _)
+
+pub loop-level-preserved : goal.loop-level-preserved
+loop-level-preserved g c =
+    let i = c.loop-level.invariant in
+    let e = c.in-Below.ensures in (
+      e.pass.0 ∙ i.0,
+      e.pass.1 ∙ i.1,
+      e.no_lock,
+      refl,
+      at_below _ _ _ _ _ c.loop-level.spot _ c.in-Below.cell c.octant.result i.4 e.turn
+          (c.octant.ensures.value ∙ ap (λ s. octant_of s c.loop-level.level) c.at-p.ensures.value ∙ ap (octant_of _) (sym i.3))
+          c.octant.ensures.small c.place_of_child.ensures c.place_of_lock.ensures (omega (arith, i.3)),
+      still_on _ _ _ i.5 e.turn.still,
+    )

@@ -1,0 +1,89 @@
+use Rattle.std.proofs.Common.{arith, ◌≡◌, ◌∙◌, ℕ, [], ap, length, subst, sym}
+use Rattle.octant_code.specs.Space.{key_of}
+use Rattle.octant_code.specs.Points.{site_at}
+use Rattle.tree_passes.specs.declared.view.View.{View}
+use Rattle.tree_passes.specs.Looks.{Looked}
+use Rattle.tree_passes.specs.Turns.{IsStill}
+use Rattle.tree_passes.proofs.Laws.{found_learnt, ready_still, still_counted, still_looked}
+use Rattle.locked_tree.specs.Seen.{HasStock}
+use Rattle.locked_tree.specs.Inserting.{LeadsTo}
+use Rattle.locked_tree.proofs.Puts.{at_locked, at_still, leads_kept, leads_still, leads_unlocked, lock_of, ready_locked, word_at}
+use Rattle.locked_tree.proofs.insert.visit.Given.{Over}
+use Rattle.locked_tree.proofs.insert.visit.Goals.{After-load}
+use Rattle.locked_tree.proofs.insert.visit.Goals as goal
+
+-- what the load told
+looked : (g : Over) (c : After-load g) → Looked c.args.pass.now.me.0 c.args.spot.word (key_of (site_at c.args.points.now c.args.n) c.args.spot.level)
+    c.load.result c.load.new.pass.me.0
+looked g c = c.load.ensures.looked _ c.requires.at.known
+
+still : (g : Over) (c : After-load g) → IsStill c.args.pass.now.me.0 c.load.new.pass.me.0
+still g c = still_looked _ _ _ _ _ (looked g c)
+
+pub named_by-requires : goal.named_by-requires
+named_by-requires g c =
+    word_at _ _ _ _ _ _ _ _ (still_counted c.args.pass.now.me.0 (key_of (site_at c.args.points.now c.args.n) c.args.spot.level) c.load.result)
+    (looked g c).tells c.requires.at
+
+pub returns-in-Cell-clause-no_lock : goal.returns-in-Cell-clause-no_lock
+returns-in-Cell-clause-no_lock g c =
+    let l = looked g (goal.at.returns-in-Cell-clause-no_lock g c).After-load in
+    (ap (λ (z : View). z.locks) l.view ∙ c.requires.no_lock.0, ap (λ (z : View). z.under) l.view ∙ c.requires.no_lock.1)
+
+pub returns-in-Cell-clause-turn : goal.returns-in-Cell-clause-turn
+returns-in-Cell-clause-turn g c =
+    let d = (goal.at.returns-in-Cell-clause-turn g c).After-load in
+    record {
+      still = still g d;
+      below = (found_learnt _ _ _ _ _ (looked g d) (λ z. omega (arith, z, c.in-Cell.ensures))).cell c.in-Cell.cell c.in-Cell.ensures;
+    }
+
+pub take_lock-requires-clause-long : goal.take_lock-requires-clause-long
+take_lock-requires-clause-long g c = (still g (goal.at.take_lock-requires-clause-long g c).After-load).long ∙ c.requires.at.long
+
+pub take_lock-requires-clause-lock : goal.take_lock-requires-clause-lock
+take_lock-requires-clause-lock g c = lock_of _ _ c.requires.at.lock_is
+
+pub take_lock-requires-clause-none_held : goal.take_lock-requires-clause-none_held
+take_lock-requires-clause-none_held g c = (still g (goal.at.take_lock-requires-clause-none_held g c).After-load).locks ∙ c.requires.no_lock.0
+
+pub settle-turn-requires-clause-at : goal.settle-turn-requires-clause-at
+settle-turn-requires-clause-at g c =
+    at_locked _ _ _ _ _ _ _ c.take_lock.ensures.taken
+    (at_still _ _ _ _ _ _ (still g (goal.at.settle-turn-requires-clause-at g c).After-load) c.requires.at)
+
+pub settle-turn-requires-clause-held : goal.settle-turn-requires-clause-held
+settle-turn-requires-clause-held g c = ap (λ (z : View). z.locks) c.take_lock.ensures.taken
+
+pub settle-turn-requires-clause-ready : goal.settle-turn-requires-clause-ready
+settle-turn-requires-clause-ready g c =
+    ready_locked _ _ _ _ _ c.take_lock.ensures.taken
+    (ready_still _ _ _ _ (still g (goal.at.settle-turn-requires-clause-ready g c).After-load) c.requires.ready)
+
+pub settle-turn-requires-clause-stock : goal.settle-turn-requires-clause-stock
+settle-turn-requires-clause-stock g c =
+    let s = still g (goal.at.settle-turn-requires-clause-stock g c).After-load in
+    subst (λ (z : ℕ). HasStock c.args.pool z (length c.args.spare.now) 1)
+    (sym (ap (λ (z : View). z.quota) c.take_lock.ensures.taken ∙ s.quota)) c.requires.stock
+
+pub unlock-requires-clause-long : goal.unlock-requires-clause-long
+unlock-requires-clause-long g c =
+    let s = still g (goal.at.unlock-requires-clause-long g c).After-load in
+    (leads_kept _ _ _ _ _ _ _ c.settle-turn.ensures.turn).1 ∙ ap (λ (z : View). length z.memory) c.take_lock.ensures.taken ∙ s.long ∙ c.requires.at.long
+
+pub unlock-requires-clause-held : goal.unlock-requires-clause-held
+unlock-requires-clause-held g c = (leads_kept _ _ _ _ _ _ _ c.settle-turn.ensures.turn).0 ∙ ap (λ (z : View). z.locks) c.take_lock.ensures.taken
+
+pub returns-clause-no_lock : goal.returns-clause-no_lock
+returns-clause-no_lock g c = (ap (λ (z : View). z.locks) c.unlock.ensures.free, ap (λ (z : View). z.under) c.unlock.ensures.free)
+
+pub returns-clause-turn : goal.returns-clause-turn
+returns-clause-turn g c =
+    let s = still g (goal.at.returns-clause-turn g c).After-load in
+    let key = key_of (site_at c.args.points.now c.args.n) c.args.spot.level in
+    leads_still _ c.load.new.pass.me.0 _ c.args.n c.args.pool c.args.spare.now key c.settle-turn.result s
+    (leads_unlocked c.load.new.pass.me.0 c.settle-turn.new.pass.me.0 _ c.args.spot.lock c.args.n c.args.pool c.args.spare.now key c.settle-turn.result
+    (s.locks ∙ c.requires.no_lock.0)
+    (subst (λ (z : View). LeadsTo z c.settle-turn.new.pass.me.0 c.args.n c.args.pool c.args.spare.now key c.settle-turn.result) c.take_lock.ensures.taken
+    c.settle-turn.ensures.turn)
+    c.unlock.ensures.free)
