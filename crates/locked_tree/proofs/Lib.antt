@@ -2,3 +2,4 @@ mod Copies
 mod Rests
 mod Starts
 mod Puts
+mod Resting
