@@ -1,16 +1,9 @@
 -- The moments of the cells of a subtree, as they are filled in.
-use Rattle.std.specs.Prelude.{ℕ, ◌*◌, ◌^◌, ◌<◌, ◌≤◌, ◌≡◌, List}
-use Rattle.bh_model.specs.Moments.{Matter, mass_of, moment, total}
-use Rattle.bh_model.specs.Trees.{Tree}
+use Rattle.std.specs.Prelude.{ℕ, ◌*◌, ◌≤◌, ◌≡◌, List}
+use Rattle.bh_model.specs.Moments.{Matter, moment}
 use Rattle.bh_model.specs.declared.moment.Moment.{Moment}
 use Rattle.octree.specs.Spot.{IsCellUnder, Spot, tree_below}
 use Rattle.mass_moments.specs.Kept.{moment_at}
-
--- the totals of a tree that have a bound: mass, bodies and cost
-pub record AreSmall (m : Matter) (cost : ℕ → ℕ) (tree : Tree) : Type 0 where
-  pub light : mass_of m tree < 2 ^ 40
-  pub few : total (λ n. 1) tree ≤ 65536
-  pub cheap : total cost tree ≤ 2 ^ 32
 
 -- the products of a moment are those of bodies in the cube
 pub record AreProductsInCube (m : Moment) : Type 0 where

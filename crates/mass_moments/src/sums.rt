@@ -1,9 +1,11 @@
 //! The moments of all cells of an octree in one pass.
 
-ghost use Rattle.std.specs.Prelude.{◌≡◌, All, IfOk, length};
+ghost use Rattle.std.specs.Prelude.{◌≡◌, ◌<◌, ℕ, All, IfOk, length};
+ghost use Rattle.bh_model.specs.Bodies.{IsIn};
+ghost use Rattle.bh_model.specs.Trees.{order};
 ghost use Rattle.bh_model.specs.Zones.{IsCost, cost_at};
 ghost use Rattle.mass_moments.specs.Kept.{AreMoments, matter_of};
-ghost use Rattle.octree.specs.Stored.{IsOctreeOf};
+ghost use Rattle.octree.specs.Stored.{IsOctreeOf, tree_of};
 ghost use Rattle.scene_file.specs.Bodies.{sites_of};
 
 use crate::fill::fill;
@@ -29,7 +31,8 @@ pub fn moments<R>(
     requires octree { IsOctreeOf (sites_of bodies.now) tree.now }
     requires one_cost_each { length costs.now ≡ length bodies.now }
     requires costs { All IsCost costs.now }
-    ensures { IfOk result (λ list. AreMoments tree.now (matter_of bodies.now) (cost_at costs.now) list) }
+    ensures moments { IfOk result (λ list. AreMoments tree.now (matter_of bodies.now) (cost_at costs.now) list) }
+    ensures costs_of_bodies { IfOk result (λ _. (n : ℕ) → IsIn (order (tree_of tree.now)) n → n < length costs.now) }
 {
     let _rule = bodies.len();
     let used = (tree.held() - tree.spare()) as usize;
@@ -39,6 +42,6 @@ pub fn moments<R>(
     let Ok(mut centres) = vec![in alloc; ORIGIN; used] else {
         return Err(OutOfMemory);
     };
-    let _whole = fill(&tree.whole(), bodies, costs, &mut list, &mut centres);
+    fill(&tree.whole(), bodies, costs, &mut list, &mut centres);
     Ok(Moments::with_centres(list, centres))
 }
