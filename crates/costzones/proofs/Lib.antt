@@ -1,5 +1,6 @@
 mod Ranges
 mod Openings
+mod Gatherings
 mod Descents
 mod ZoneCuts
 mod ZoneLists

@@ -6,7 +6,7 @@ use Rattle.std.proofs.lemmas.Bool.{cases_Bool, cases_lt, ltb-true}
 use Rattle.std.proofs.lemmas.Bool.Decides.{nat_tests}
 use Rattle.bh_model.proofs.Folds.{height_falls, nth}
 use Rattle.bh_model.proofs.Lists.{joined}
-use Rattle.bh_model.proofs.Totals.{each_of_eight, sum_upto, total-cell, total-order}
+use Rattle.bh_model.proofs.Totals.{each_of_eight, sum_upto, sum_upto-le, sum_upto-more, total-cell, total-order}
 use Rattle.bh_model.specs.Moments.{total}
 use Rattle.bh_model.specs.Trees.{Tree, Empty, Body, Cell, cell_of, height, order}
 use Rattle.costzones.specs.Ranges.{between, meets, opened_from}
@@ -17,6 +17,12 @@ use Rattle.costzones.proofs.Ranges.{between-cell, between-in, child_between}
 -- where a child of a cell begins
 abbrev pub child_start : (ℕ → ℕ) → ℕ → (ℕ → Tree) → ℕ → ℕ
 child_start cost p child k = p + sum_upto (λ j. total cost (child j)) k
+
+-- it ends where its cell ends, or before
+pub child_ends : (cost : ℕ → ℕ) (p : ℕ) (child : ℕ → Tree) (k : ℕ) → k < 8 → child_start cost p child k + total cost (child k) ≤ p + total cost (cell_of child)
+child_ends cost p child k l =
+    omega
+    (arith, total-cell cost child, sum_upto-le (λ j. total cost (child j)) (k + 1) 8 (omega arith), sum_upto-more (λ j. total cost (child j)) k)
 
 -- how many cells of a child are opened
 abbrev pub child_opened : (ℕ → ℕ) → ℕ → ℕ → ℕ → (ℕ → Tree) → ℕ → ℕ

@@ -1,5 +1,5 @@
 -- Ranges of cost: where the bodies of a zone begin, and which cells of a tree a descent to them opens.
-use Rattle.std.specs.Prelude.{ℕ, ◌+◌, ◌-◌, ◌*◌, ◌/◌, ◌&&◌, Bool, List, [], ◌∷◌, max, min, nat_le, nat_lt, if◌then◌else◌}
+use Rattle.std.specs.Prelude.{ℕ, ◌+◌, ◌-◌, ◌*◌, ◌/◌, ◌&&◌, Bool, List, [], ◌∷◌, length, max, min, nat_le, nat_lt, if◌then◌else◌}
 use Rattle.bh_model.specs.Moments.{total}
 use Rattle.bh_model.specs.Trees.{Tree, Empty, Body, Cell, order}
 use Rattle.bh_model.specs.Zones.{cost_of}
@@ -34,6 +34,13 @@ opened_from cost low high before (Cell a b c d e f g h) =
     at2 c + opened_from cost low high at3 d
     + opened_from cost low high at4 e + opened_from cost low high at5 f + opened_from cost low high at6 g + opened_from cost low high at7 h
     else 0)
+
+-- how many cells of a tree have bodies: those that are opened where all its bodies begin in the range
+unfoldable pub busy : Tree → ℕ
+busy Empty = 0
+busy (Body n) = 0
+busy (Cell a b c d e f g h) =
+    if nat_lt 0 (length (order (Cell a b c d e f g h))) then 1 + busy a + busy b + busy c + busy d + busy e + busy f + busy g + busy h else 0
 
 -- how many cells of a tree are opened for zone w: those whose span of cost meets the zone's range
 abbrev pub opened : (ℕ → ℕ) → ℕ → ℕ → Tree → ℕ

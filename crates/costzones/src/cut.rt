@@ -59,7 +59,7 @@ pub fn zone<L: Ledger>(
         high: range_start(workers, whole, w + 1),
     };
     if meets(&cut, 0, whole) {
-        descend(&cut, &mut bodies, &root, 0, steps)?;
+        descend(&cut, &mut bodies, root, 0, whole, steps)?;
     }
     Ok(bodies)
 }

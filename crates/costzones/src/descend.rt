@@ -1,11 +1,11 @@
 //! The descent to the bodies of one zone.
 
-ghost use Rattle.std.specs.Prelude.{◌≡◌, ◌<◌, ◌≤◌, ◌+◌, ◌^◌, ◌++◌, ℕ, All, IsTrue, OnOk, length};
+ghost use Rattle.std.specs.Prelude.{◌≡◌, ◌<◌, ◌≤◌, ◌+◌, ◌++◌, ℕ, All, IsTrue, OnOk, length};
 ghost use Rattle.bh_model.specs.Bodies.{IsIn};
 ghost use Rattle.bh_model.specs.Moments.{total};
 ghost use Rattle.bh_model.specs.Trees.{order};
 ghost use Rattle.bh_model.specs.Zones.{IsCost, cost_at};
-ghost use Rattle.costzones.specs.Ranges.{between, meets, opened_from};
+ghost use Rattle.costzones.specs.Ranges.{between, busy, meets, opened_from};
 ghost use Rattle.mass_moments.specs.Kept.{HaveCosts};
 ghost use Rattle.octree.specs.Spot.{tree_under};
 
@@ -31,24 +31,61 @@ pub fn meets(cut: &Cut, from: u64, to: u64) -> bool
     cut.low.max(from) < cut.high.min(to)
 }
 
+#[tactic(auto, using(octree::proofs::Laws::child_height, bh_model::proofs::Folds::order_steps, crate::proofs::Gatherings::busy_steps))]
+/// Puts the bodies of a subtree at the end of a list, in tree order. A step is a cell that is opened:
+/// each of the subtree's.
+fn gather<L: Ledger>(
+    node: Subtree,
+    bodies: &mut Vec<u32>,
+    steps: &mut Steps<L>,
+) -> Result<(), OutOfMemory>
+    ensures items { OnOk result (bodies.new.items ≡ bodies.old.items ++ order (tree_under node.entry)) }
+    ensures opened { OnOk result (steps.new ≡ steps.old + busy (tree_under node.entry)) }
+    ensures few { steps.new ≤ steps.old + busy (tree_under node.entry) }
+{
+    match node.top() {
+        Top::Nothing => Ok(()),
+        Top::Body(n) => match bodies.push(n) {
+            Ok(()) => Ok(()),
+            Err(_) => Err(OutOfMemory),
+        },
+        Top::Cell(cell) => {
+            steps.tick();
+            for k in 0..8 {
+                let child = cell.child(k);
+                match child.top() {
+                    Top::Nothing => {}
+                    _ => gather(child, bodies, steps)?,
+                }
+            }
+            Ok(())
+        }
+    }
+}
+
 /// Puts the bodies of the zone that stand in a subtree at the end of a list. The bodies before them have
-/// the cost `before`. A step is a cell that is opened: each whose span of cost meets the zone's range.
+/// the cost `before`, and with them `after`. A step is a cell that is opened: each whose span of cost
+/// meets the zone's range. Where the whole span lies in the range, nothing more is compared.
 pub fn descend<L: Ledger>(
     cut: &Cut,
     bodies: &mut Vec<u32>,
-    node: &Subtree,
+    node: Subtree,
     before: u64,
+    after: u64,
     steps: &mut Steps<L>,
 ) -> Result<(), OutOfMemory>
-    requires costs_of_bodies { (n : ℕ) → IsIn (order (tree_under node.now)) n → n < length cut.now.costs.now }
+    requires costs_of_bodies { (n : ℕ) → IsIn (order (tree_under node)) n → n < length cut.now.costs.now }
     requires costs { All IsCost cut.now.costs.now }
-    requires moments { HaveCosts node.now.octree (cost_at cut.now.costs.now) cut.now.moments.now }
-    requires fits { before + total (cost_at cut.now.costs.now) (tree_under node.now) < 2 ^ 64 }
-    requires meets { IsTrue (meets cut.now.low cut.now.high before (before + total (cost_at cut.now.costs.now) (tree_under node.now))) }
-    ensures items { OnOk result (bodies.new.items ≡ bodies.old.items ++ between (cost_at cut.now.costs.now) cut.now.low cut.now.high before (order (tree_under node.now))) }
-    ensures opened { OnOk result (steps.new ≡ steps.old + opened_from (cost_at cut.now.costs.now) cut.now.low cut.now.high before (tree_under node.now)) }
-    ensures few { steps.new ≤ steps.old + opened_from (cost_at cut.now.costs.now) cut.now.low cut.now.high before (tree_under node.now) }
+    requires moments { HaveCosts node.octree (cost_at cut.now.costs.now) cut.now.moments.now }
+    requires after { after ≡ before + total (cost_at cut.now.costs.now) (tree_under node) }
+    requires meets { IsTrue (meets cut.now.low cut.now.high before (before + total (cost_at cut.now.costs.now) (tree_under node))) }
+    ensures items { OnOk result (bodies.new.items ≡ bodies.old.items ++ between (cost_at cut.now.costs.now) cut.now.low cut.now.high before (order (tree_under node.entry))) }
+    ensures opened { OnOk result (steps.new ≡ steps.old + opened_from (cost_at cut.now.costs.now) cut.now.low cut.now.high before (tree_under node.entry)) }
+    ensures few { steps.new ≤ steps.old + opened_from (cost_at cut.now.costs.now) cut.now.low cut.now.high before (tree_under node.entry) }
 {
+    if cut.low <= before && after <= cut.high {
+        return gather(node, bodies, steps);
+    }
     match node.top() {
         Top::Nothing => Ok(()),
         Top::Body(n) => {
@@ -68,7 +105,7 @@ pub fn descend<L: Ledger>(
                 let child = cell.child(k);
                 let next = at + cut.moments.cost_of(&child, cut.costs);
                 if meets(cut, at, next) {
-                    descend(cut, bodies, &child, at, steps)?;
+                    descend(cut, bodies, child, at, next, steps)?;
                 }
                 at = next;
             }

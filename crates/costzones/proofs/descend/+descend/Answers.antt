@@ -1,4 +1,4 @@
-use Rattle.std.proofs.Common.{◌+◌, arith, rules, ap, sym, ◌∙◌}
+use Rattle.std.proofs.Common.{◌+◌, ℕ, arith, rules, ap, sym, ◌∙◌}
 use Rattle.std.proofs.lemmas.Bool.{ltb-true}
 use Rattle.bh_model.specs.Zones.{cost_at}
 use Rattle.octree.proofs.Laws.{child_bodies, child_height, child_octree}
@@ -6,7 +6,8 @@ use Rattle.octree.specs.Spot.{tree_under}
 use Rattle.costzones.specs.Ranges.{meets}
 use Rattle.costzones.proofs.Descents.{cost_fits, costs_positive, gathered_broken, gathered_items, gathered_more, gathered_none, gathered_opened}
 use Rattle.costzones.proofs.Descents.{gathered_skip, items_before, items_none, items_one, opened_nothing, opened_one}
-use Rattle.costzones.proofs.descend.+descend.Goals.{then-meets+in_ok-descend-in-Cell, else-meets}
+use Rattle.costzones.proofs.Gatherings.{IsWhole, whole_inside}
+use Rattle.costzones.proofs.descend.+descend.Goals.{After-gather, then-meets+in_ok-descend-in-Cell, else-meets}
 use Rattle.costzones.proofs.descend.+descend.Goals as goal
 
 pub loop-k-init : goal.loop-k-init
@@ -18,20 +19,19 @@ cost_of-requires-clause-costs_of_bodies g t c n i =
 
 pub overflow_add-next : goal.overflow_add-next
 overflow_add-next g t c =
-    omega (arith, cost_fits _ _ c.loop-k.invariant c.loop-k-test.true c.child-child.ensures.tree c.in-Cell.ensures.tree, c.cost_of.ensures, c.requires.fits)
+    omega (arith, cost_fits _ _ c.loop-k.invariant c.loop-k-test.true c.child-child.ensures.tree c.in-Cell.ensures.tree, c.cost_of.ensures, c.requires.after, c.ranges.after)
 
 pub descend-requires : goal.descend-requires
 descend-requires g t c κs within =
     let cut = c.args.cut.now in
     let same = child_octree _ _ _ _ c.in-Cell.ensures c.child-child.ensures in
-    let fits = cost_fits _ _ c.loop-k.invariant c.loop-k-test.true c.child-child.ensures.tree c.in-Cell.ensures.tree in
     let met = ap (λ n. meets cut.low cut.high c.loop-k.at (c.loop-k.at + n)) (sym c.cost_of.ensures) ∙ sym c.meets.ensures ∙ c.if-meets.true in (
       omega (arith, child_height _ _ _ _ c.in-Cell.ensures c.child-child.ensures c.loop-k-test.true),
       (
         search rules,
         (
           λ n i. c.requires.costs_of_bodies n (child_bodies _ _ _ _ n c.in-Cell.ensures c.child-child.ensures c.loop-k-test.true i),
-          (c.requires.costs, (rw same c.requires.moments, (omega (arith, fits, c.requires.fits), met))),
+          (c.requires.costs, (rw same c.requires.moments, (omega (arith, c.cost_of.ensures), met))),
         ),
       ),
     )
@@ -62,7 +62,7 @@ pub returns-in-Nothing-clause-opened : goal.returns-in-Nothing-clause-opened
 returns-in-Nothing-clause-opened g t c =
     omega (
       arith,
-      opened_nothing (cost_at c.args.cut.now.costs.now) c.args.cut.now.low c.args.cut.now.high c.args.before (tree_under c.args.node.now)
+      opened_nothing (cost_at c.args.cut.now.costs.now) c.args.cut.now.low c.args.cut.now.high c.args.before (tree_under c.args.node)
           c.in-Nothing.ensures.tree,
     )
 
@@ -75,18 +75,18 @@ pub returns-in-Ok-clause-opened : goal.returns-in-Ok-clause-opened
 returns-in-Ok-clause-opened g t c =
     omega (
       arith,
-      opened_one (cost_at c.args.cut.now.costs.now) c.args.cut.now.low c.args.cut.now.high c.args.before c.in-Body.n (tree_under c.args.node.now)
+      opened_one (cost_at c.args.cut.now.costs.now) c.args.cut.now.low c.args.cut.now.high c.args.before c.in-Body.n (tree_under c.args.node)
           c.in-Body.ensures.tree,
     )
 
-pub returns-else-cut-before-clause-items : goal.returns-else-cut-before-clause-items
-returns-else-cut-before-clause-items g t c = items_before _ _ _ _ _ _ c.args.bodies.now.items c.in-Body.ensures.tree (omega arith)
+pub returns-else-cut-before-2-clause-items : goal.returns-else-cut-before-2-clause-items
+returns-else-cut-before-2-clause-items g t c = items_before _ _ _ _ _ _ c.args.bodies.now.items c.in-Body.ensures.tree (omega arith)
 
-pub returns-else-cut-before-clause-opened : goal.returns-else-cut-before-clause-opened
-returns-else-cut-before-clause-opened g t c =
+pub returns-else-cut-before-2-clause-opened : goal.returns-else-cut-before-2-clause-opened
+returns-else-cut-before-2-clause-opened g t c =
     omega (
       arith,
-      opened_one (cost_at c.args.cut.now.costs.now) c.args.cut.now.low c.args.cut.now.high c.args.before c.in-Body.n (tree_under c.args.node.now)
+      opened_one (cost_at c.args.cut.now.costs.now) c.args.cut.now.low c.args.cut.now.high c.args.before c.in-Body.n (tree_under c.args.node)
           c.in-Body.ensures.tree,
     )
 
@@ -98,3 +98,18 @@ returns-after-loop-k-clause-opened g t c = gathered_opened _ c.loop-k.invariant 
 
 pub returns-after-loop-k-clause-few : goal.returns-after-loop-k-clause-few
 returns-after-loop-k-clause-few g t c = omega (arith, gathered_opened _ c.loop-k.invariant (omega arith) c.in-Cell.ensures.tree c.requires.meets)
+
+-- the whole span lies in the range
+whole : (g : _) (t : ℕ) (c : After-gather g t) → IsWhole (cost_at c.args.cut.now.costs.now) c.args.cut.now.low c.args.cut.now.high c.args.before (tree_under c.args.node)
+whole g t c =
+    whole_inside _ _ _ _ _ _ (costs_positive _ c.args.cut.now.costs.now c.requires.costs_of_bodies c.requires.costs) c.if-cut-before.true c.requires.after
+    c.if-after-cut.true
+
+pub returns-then-after-cut-clause-items : goal.returns-then-after-cut-clause-items
+returns-then-after-cut-clause-items g t c = rw (whole g t c).items_are c.gather.ensures.items
+
+pub returns-then-after-cut-clause-opened : goal.returns-then-after-cut-clause-opened
+returns-then-after-cut-clause-opened g t c = rw (whole g t c).steps_are c.gather.ensures.opened
+
+pub returns-then-after-cut-clause-few : goal.returns-then-after-cut-clause-few
+returns-then-after-cut-clause-few g t c = rw (whole g t c).steps_are c.gather.ensures.few

@@ -5,7 +5,7 @@ use Rattle.costzones.proofs.Descents.{IsGathered}
 use Rattle.costzones.proofs.descend.+descend.Given as goal
 
 abbrev pub decreases-descend : goal.decreases-descend
-decreases-descend g l = height (tree_under l.node.now)
+decreases-descend g l = height (tree_under l.node)
 
 abbrev pub invariant-loop-k : goal.invariant-loop-k
 invariant-loop-k g l =
