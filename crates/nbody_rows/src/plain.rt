@@ -1,14 +1,17 @@
 //! The plain program and the real path: pulls by laws at both ends of their ranges over the greatest
-//! masses and points at the corners of the cube, and the moment of all bodies by unequal costs.
+//! masses and points at the corners of the cube, and the moment of all bodies and the zones by unequal
+//! costs.
 
 ghost use Rattle.std.specs.Prelude.{◌≡◌, ◌<◌, ◌≤◌, ◌^◌, All, IfOk, length, map};
 ghost use Rattle.bh_model.specs.Bodies.{numbers};
+ghost use Rattle.bh_model.specs.Plans.{HasWorkers};
 ghost use Rattle.bh_model.specs.Zones.{IsCost};
 ghost use Rattle.scene_file.specs.declared.bodies.Body.{Body};
 
 use crate::made::made_scene;
 use bh_model::{Builder, Law, Plan, Pull};
-use bh_plain::{plain_moment, plain_pull};
+use bh_plain::{plain_moment, plain_pull, plain_zone};
+use costzones::zones;
 use frame_core::Engine;
 use mass_moments::{Moment, Moments, moments};
 use octant_code::OutOfMemory;
@@ -110,14 +113,14 @@ fn opening_angles_at_both_ends(rt: HostRuntime) -> Result<(), Fail> {
     agrees(&rt, rt.alloc(), HEAVY, law_of(65_535, 1, 0, 1 << 32))
 }
 
-/// Unequal costs for so many bodies, from 1 to 7.
+/// Unequal costs for so many bodies, from 1 to 65,536.
 fn unequal_costs(alloc: Global, count: u32) -> Result<Vec<u32>, OutOfMemory>
     ensures count { IfOk result (λ costs. length costs.items ≡ count) }
     ensures costs { IfOk result (λ costs. All IsCost costs.items) }
 {
     let mut costs = Vec::new(alloc);
     for n in 0..count {
-        costs.push(1 + n % 7)?;
+        costs.push(1 + n.wrapping_mul(40_503) % 65_536)?;
     }
     Ok(costs)
 }
@@ -158,5 +161,53 @@ fn the_moment_of_all_bodies_by_unequal_costs(rt: HostRuntime) -> Result<(), Fail
         moment_at(&table, root),
         Some(plain_whole(alloc, &bodies, &costs)?)
     );
+    Ok(())
+}
+
+/// Zone `w` of all bodies, by the plain program.
+fn plain_share(
+    alloc: Global,
+    bodies: &Bodies,
+    costs: &[u32],
+    workers: u32,
+    w: u32,
+) -> Result<Vec<u32>, OutOfMemory>
+    requires one_each { length costs.now ≡ length bodies.now }
+{
+    let count = bodies.len();
+    let points = bodies.points(alloc)?;
+    let all = numbers_below(alloc, count)?;
+    plain_zone(alloc, &points, costs, workers, w, &all)
+}
+
+/// The zones of some workers, by the real path.
+fn real_zones(
+    alloc: Global,
+    bodies: &Bodies,
+    costs: &[u32],
+    workers: u32,
+) -> Result<Vec<Vec<u32>>, OutOfMemory>
+    requires one_each { length costs.now ≡ length bodies.now }
+    requires costs { All IsCost costs.now }
+    requires workers { HasWorkers workers }
+{
+    let points = bodies.points(alloc)?;
+    let tree = Octree::of_points(alloc, &points)?;
+    let table = moments(&alloc, alloc, &tree, bodies, costs)?;
+    zones(alloc, &tree, &table, costs, workers)
+}
+
+#[test]
+fn the_zones_of_unequal_costs(rt: HostRuntime) -> Result<(), Fail> {
+    let alloc = rt.alloc();
+    let bodies = read_scene(alloc, &made_scene(alloc, 300)?)?.bodies;
+    let costs = unequal_costs(alloc, bodies.len())?;
+    let zones = real_zones(alloc, &bodies, &costs, 3)?;
+    assert_eq!(rt; zones.len(), 3);
+    for w in 0..3 {
+        let plain = plain_share(alloc, &bodies, &costs, 3, w)?;
+        assert!(rt; !plain.is_empty());
+        assert_eq!(rt; zones[w as usize].as_slice(), plain.as_slice());
+    }
     Ok(())
 }
