@@ -4,6 +4,8 @@ use Rattle.std.proofs.lemmas.Bool.{cases_lt}
 use Rattle.std.proofs.lemmas.Bool.Decides.{nat_tests}
 use Rattle.std.proofs.lemmas.List.Sums.{sum_by-cons}
 use Rattle.bh_model.proofs.Folds.{nth}
+pub use Rattle.bh_model.proofs.Folds.{order_steps}
+pub use Rattle.octree.proofs.Laws.{child_height}
 use Rattle.bh_model.proofs.Orders.{child_in_order}
 use Rattle.bh_model.proofs.Totals.{each_of_eight, sum_upto, sum_upto-le, sum_upto-more, sum_upto-none, sum_upto-same, total-order}
 use Rattle.bh_model.specs.Bodies.{IsIn}
@@ -60,7 +62,7 @@ pub busies_few : (f : ℕ → Tree) (k : ℕ) → k < 8 → busies f (k + 1) ≤
 unfolding busies
 busies_few f k l = sum_upto-le (λ j. busy (f j)) (k + 1) 8 (omega arith)
 
-pub ruleset busy_steps = (busies_start, busy_none, busy_one, busies_next, busies_few)
+pub ruleset gather_steps = (child_height, order_steps, busies_start, busy_none, busy_one, busies_next, busies_few)
 
 -- ---- a tree whose span lies in the range
 
@@ -92,8 +94,8 @@ opened-all cost low high (Cell a b c d e f g h) p one from to =
     let kid : ℕ → Tree = nth a b c d e f g h in
     let all : ℕ → Tree → Type 0 = λ q t. ((n : ℕ) → IsIn (order t) n → 1 ≤ cost n) → low ≤ q → q + total cost t ≤ high
     → opened_from cost low high q t ≡ busy t in
-    let each : (k : ℕ) → k < 8 → (q : ℕ) → all q (kid k) = each_of_eight (λ k. (q : ℕ) → all q (kid k)) (opened-all cost low high a) (opened-all cost low high b)
-    (opened-all cost low high c) (opened-all cost low high d) (opened-all cost low high e) (opened-all cost low high f) (opened-all cost low high g)
+    let each : (k : ℕ) → k < 8 → (q : ℕ) → all q (kid k) =
+    each_of_eight (λ k. (q : ℕ) → all q (kid k)) (opened-all cost low high a) (opened-all cost low high b) (opened-all cost low high c) (opened-all cost low high d) (opened-all cost low high e) (opened-all cost low high f) (opened-all cost low high g)
     (opened-all cost low high h) in
     let orders = total-order cost (cell_of kid) in
     elim (cases_lt 0 (length (order (cell_of kid)))) [

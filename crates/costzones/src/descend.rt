@@ -31,7 +31,7 @@ pub fn meets(cut: &Cut, from: u64, to: u64) -> bool
     cut.low.max(from) < cut.high.min(to)
 }
 
-#[tactic(auto, using(octree::proofs::Laws::child_height, bh_model::proofs::Folds::order_steps, crate::proofs::Gatherings::busy_steps))]
+#[tactic(auto, using(crate::proofs::Gatherings::gather_steps))]
 /// Puts the bodies of a subtree at the end of a list, in tree order. A step is a cell that is opened:
 /// each of the subtree's.
 fn gather<L: Ledger>(

@@ -86,5 +86,6 @@ upto_fits m cost child k l =
     (arith, total-cell q child, sum_upto-le (λ j. total q (child j)) (k + 1) 8 (omega arith), sum_upto-more (λ j. total q (child j)) k))
 
 -- and the child's do
-pub child_fits : (m : Matter) (cost : ℕ → ℕ) (child : ℕ → Tree) (k : ℕ) → k < 8 → FitsWords (moment m cost (cell_of child)) → FitsWords (moment m cost (child k))
+pub child_fits : (m : Matter) (cost : ℕ → ℕ) (child : ℕ → Tree) (k : ℕ) → k < 8 → FitsWords (moment m cost (cell_of child))
+    → FitsWords (moment m cost (child k))
 child_fits m cost child k l = fits_less (λ q. total q (child k)) (λ q. total q (cell_of child)) m cost (λ q. child_total q child k l)

@@ -40,49 +40,47 @@ pub record AreFilledUpTo (m : Matter) (cost : ℕ → ℕ) (cell : Spot) (k : �
 pub filled_start : (m : Matter) (cost : ℕ → ℕ) (cell : Spot) (list : List Moment) → AreFilledUpTo m cost cell 0 list list no_moment
 filled_start m cost cell list = record { whole_is = upto_none m cost (child_under cell); own = λ j d l r. absurd (omega arith); others = λ d h. refl }
 
--- one child more
-filled_more : {m : Matter} {cost : ℕ → ℕ} {cell child : Spot} {k : ℕ} {before now next : List Moment} {whole more : Moment}
-    → IsCellAt cell cell → IsChildOf cell k child → k < 8 → AreFilledUpTo m cost cell k before now whole → AreFilled m cost child now next
-    → more ≡ moment_upto m cost (child_under cell) (k + 1) → AreFilledUpTo m cost cell (k + 1) before next more
-filled_more {m} {cost} {cell} {k = k} at is small upto filled more_is = record {
-  whole_is = more_is;
-  own = λ j d l r. elim (cases_lt j k) [
-    | inl less ↦ filled.others d (λ x. let same : j ≡ k = at.parts.apart j k d (omega arith) small r ((is.cells d).0 x) in omega arith) ∙ upto.own j d less r
-    | inr ge ↦
-        let same : j ≡ k = omega arith in
-        filled.own d ((is.cells d).1 (subst (λ (y : ℕ). IsUnderChild cell y d) same r)) ∙ ap (λ o. moment m cost (tree_below o d)) is.octree
-  ];
-  others = λ d h. filled.others d (λ x. h k (omega arith) ((is.cells d).0 x)) ∙ upto.others d (λ j l r. h j (omega arith) r);
-}
+module _ {m : Matter} {cost : ℕ → ℕ} {cell child : Spot} {k : ℕ} {before now : List Moment} {whole : Moment} (at : IsCellAt cell cell)
+    (is : IsChildOf cell k child) (small : k < 8) (upto : AreFilledUpTo m cost cell k before now whole) where
+  -- one child more
+  filled_more : {next : List Moment} {more : Moment} → AreFilled m cost child now next → more ≡ moment_upto m cost (child_under cell) (k + 1)
+      → AreFilledUpTo m cost cell (k + 1) before next more
+  filled_more filled more_is = record {
+    whole_is = more_is;
+    own = λ j d l r. elim (cases_lt j k) [
+      | inl less ↦
+          filled.others d (λ x. let same : j ≡ k = at.parts.apart j k d (omega arith) small r ((is.cells d).0 x) in omega arith) ∙ upto.own j d less r
+      | inr ge ↦
+          let same : j ≡ k = omega arith in
+          filled.own d ((is.cells d).1 (subst (λ (y : ℕ). IsUnderChild cell y d) same r)) ∙ ap (λ o. moment m cost (tree_below o d)) is.octree
+    ];
+    others = λ d h. filled.others d (λ x. h k (omega arith) ((is.cells d).0 x)) ∙ upto.others d (λ j l r. h j (omega arith) r);
+  }
 
--- its moment is added
-added : {m : Matter} {cost : ℕ → ℕ} {cell : Spot} {k : ℕ} {before now : List Moment} {whole part more : Moment} (t : Tree)
-    → AreFilledUpTo m cost cell k before now whole → part ≡ moment m cost t → t ≡ child_under cell k → more ≡ add_moment whole part
-    → more ≡ moment_upto m cost (child_under cell) (k + 1)
-added {m} {cost} {cell} {k} {part = part} t upto part_is same more_is =
-    more_is ∙ ap (λ y. add_moment y part) upto.whole_is ∙ ap (add_moment (moment_upto m cost (child_under cell) k)) (part_is ∙ ap (moment m cost) same)
-    ∙ upto_more m cost (child_under cell) k
+  -- its moment is added
+  added : {part more : Moment} (t : Tree) → part ≡ moment m cost t → t ≡ child_under cell k → more ≡ add_moment whole part
+      → more ≡ moment_upto m cost (child_under cell) (k + 1)
+  added {part} t part_is same more_is =
+      more_is ∙ ap (λ y. add_moment y part) upto.whole_is ∙ ap (add_moment (moment_upto m cost (child_under cell) k)) (part_is ∙ ap (moment m cost) same)
+      ∙ upto_more m cost (child_under cell) k
 
--- an empty child, a body and a cell
-pub nothing_more : {m : Matter} {cost : ℕ → ℕ} {cell child : Spot} {k : ℕ} {before now : List Moment} {whole : Moment}
-    → IsCellAt cell cell → IsChildOf cell k child → k < 8 → AreFilledUpTo m cost cell k before now whole → IsNothingAt child
-    → AreFilledUpTo m cost cell (k + 1) before now whole
-nothing_more {m} {cost} {cell} {k = k} at is small upto met =
-    filled_more at is small upto (bare_filled met.bare) (upto.whole_is ∙ upto_empty m cost (child_under cell) k (sym met.tree ∙ is.tree))
+  -- an empty child, a body and a cell
+  pub nothing_more : IsNothingAt child → AreFilledUpTo m cost cell (k + 1) before now whole
+  nothing_more met = filled_more (bare_filled met.bare) (upto.whole_is ∙ upto_empty m cost (child_under cell) k (sym met.tree ∙ is.tree))
 
-pub body_more : {m : Matter} {cost : ℕ → ℕ} {cell child : Spot} {k n : ℕ} {before now : List Moment} {whole part more : Moment}
-    → IsCellAt cell cell → IsChildOf cell k child → k < 8 → AreFilledUpTo m cost cell k before now whole → IsBodyAt child n
-    → part ≡ moment m cost (Body n) → more ≡ add_moment whole part → AreFilledUpTo m cost cell (k + 1) before now more
-body_more at is small upto met part_is more_is =
-    filled_more at is small upto (bare_filled met.bare) (added _ upto part_is (sym met.tree ∙ is.tree) more_is)
+  pub body_more : {n : ℕ} {part more : Moment} → IsBodyAt child n → part ≡ moment m cost (Body n) → more ≡ add_moment whole part
+      → AreFilledUpTo m cost cell (k + 1) before now more
+  body_more met part_is more_is = filled_more (bare_filled met.bare) (added _ part_is (sym met.tree ∙ is.tree) more_is)
 
-pub cell_more : {m : Matter} {cost : ℕ → ℕ} {cell child inner : Spot} {k : ℕ} {before now next : List Moment} {whole part more : Moment}
-    → IsCellAt cell cell → IsChildOf cell k child → k < 8 → AreFilledUpTo m cost cell k before now whole → IsCellAt child inner
-    → AreFilled m cost inner now next → part ≡ moment m cost (tree_under inner) → more ≡ add_moment whole part
-    → AreFilledUpTo m cost cell (k + 1) before next more
-cell_more {m} {cost} {now = now} {next = next} at is small upto met filled part_is more_is =
-    filled_more at is small upto (subst (λ (y : Spot). AreFilled m cost y now next) met.same filled)
-    (added _ upto part_is (ap (λ (y : Spot). tree_under y) met.same ∙ is.tree) more_is)
+  pub cell_more : {inner : Spot} {next : List Moment} {part more : Moment} → IsCellAt child inner → AreFilled m cost inner now next
+      → part ≡ moment m cost (tree_under inner) → more ≡ add_moment whole part → AreFilledUpTo m cost cell (k + 1) before next more
+  cell_more {next = next} met filled part_is more_is =
+      filled_more (subst (λ (y : Spot). AreFilled m cost y now next) met.same filled)
+      (added _ part_is (ap (λ (y : Spot). tree_under y) met.same ∙ is.tree) more_is)
+
+  -- the sums with it fit the words
+  pub more_fits : FitsWords (moment m cost (tree_under cell)) → FitsWords (add_moment whole (moment m cost (tree_under child)))
+  more_fits all = rw (is.tree, upto.whole_is) (upto_fits m cost (child_under cell) k small (subst FitsWords (ap (moment m cost) at.tree) all))
 
 -- the moment of a cell whose children are filled in
 pub whole_cell : {m : Matter} {cost : ℕ → ℕ} {cell : Spot} {k : ℕ} {before now : List Moment} {whole : Moment}
@@ -112,13 +110,7 @@ filled_cell {m} {cost} {cell} {k} {c} {before} {now} {whole} at all number withi
           get_or-set_other now c d whole no_moment differ ∙ upto.others d (λ j l r. h (at.parts.below j d (omega arith) r));
     }
 
--- the sums with one child more fit the words, and so do the child's
-pub more_fits : {m : Matter} {cost : ℕ → ℕ} {cell child : Spot} {k : ℕ} {before now : List Moment} {whole : Moment} → IsCellAt cell cell
-    → IsChildOf cell k child → k < 8 → AreFilledUpTo m cost cell k before now whole → FitsWords (moment m cost (tree_under cell))
-    → FitsWords (add_moment whole (moment m cost (tree_under child)))
-more_fits {m} {cost} {cell} {k = k} at is l upto all =
-    rw (is.tree, upto.whole_is) (upto_fits m cost (child_under cell) k l (subst FitsWords (ap (moment m cost) at.tree) all))
-
+-- and the child's own do
 pub part_fits : {cell child : Spot} {k : ℕ} (m : Matter) (cost : ℕ → ℕ) → IsCellAt cell cell → IsChildOf cell k child → k < 8
     → FitsWords (moment m cost (tree_under cell)) → FitsWords (moment m cost (tree_under child))
 part_fits {cell} {k = k} m cost at is l all = rw is.tree (child_fits m cost (child_under cell) k l (subst FitsWords (ap (moment m cost) at.tree) all))

@@ -2,7 +2,7 @@ use Rattle.std.proofs.Common.{◌+◌, arith, ◌∙◌, sym, ap}
 use Rattle.bh_model.specs.Zones.{cost_at}
 use Rattle.octree.specs.Spot.{tree_under}
 use Rattle.octree.specs.Stored.{tree_of}
-use Rattle.costzones.proofs.Descents.{IsTaken, costs_positive, taken_all, taken_none}
+use Rattle.costzones.proofs.Descents.{IsTaken, costs_positive, taken_apart}
 use Rattle.costzones.proofs.ZoneCuts.{IsCutFor, cut_few, cut_opened, cut_zone}
 use Rattle.costzones.proofs.cut.zone.Goals.{After-meets, Joined-meets, then-meets+in_ok-descend, else-meets}
 use Rattle.costzones.proofs.cut.zone.Goals as goal
@@ -21,24 +21,26 @@ cut g c = record {
   high_is = c.range_start-2.ensures;
 }
 
--- what was gathered
+-- what was taken
 taken : (g : _) (c : Joined-meets g)
-    → IsTaken (cost_at c.args.costs.now) c.range_start.result c.range_start-2.result (tree_under c.whole-root.result) c.args.steps.now c.if-meets.bodies.items
-    c.if-meets.steps
+    → IsTaken (cost_at c.args.costs.now) c.range_start.result c.range_start-2.result 0 (tree_under c.whole-root.result) c.new-bodies.result.items
+    c.args.steps.now c.if-meets.bodies.items c.if-meets.steps
 taken g c =
     let one = costs_positive (tree_under c.whole-root.result) c.args.costs.now (rw c.whole-root.ensures.tree c.requires.costs_of_bodies) c.requires.costs in
     elim c.if-meets.branch [
-      | then-meets+in_ok-descend w ↦ rw (w.bodies-is, w.steps-is)
-          (taken_all _ _ _ _ _ _ _ _ c.new-bodies.ensures.items w.in_ok-descend.ensures.items w.in_ok-descend.ensures.opened)
-      | else-meets w ↦ rw (w.bodies-is, w.steps-is)
-          (taken_none _ _ _ _ _ _ _ c.new-bodies.ensures.items one c.cost_of-whole.ensures (sym c.meets.ensures ∙ w.if-meets.false))
+      | then-meets+in_ok-descend w ↦
+          rw (w.bodies-is, w.steps-is) record { items_are = w.in_ok-descend.ensures.items; steps_are = w.in_ok-descend.ensures.opened }
+      | else-meets w ↦
+          rw (w.bodies-is, w.steps-is)
+          (taken_apart c.cost_of-whole.result one (omega (arith, c.cost_of-whole.ensures)) (sym c.meets.ensures ∙ w.if-meets.false))
     ]
 
 pub returns-in_err-descend-clause-steps : goal.returns-in_err-descend-clause-steps
 returns-in_err-descend-clause-steps g c = omega (arith, c.descend.ensures.few, cut_few (cut g (goal.at.returns-in_err-descend-clause-steps g c).After-meets))
 
 pub returns-clause-items : goal.returns-clause-items
-returns-clause-items g c = (taken g c).items_are ∙ cut_zone (cut g (goal.at.returns-clause-items g c).After-meets)
+returns-clause-items g c =
+    (taken g c).items_are ∙ rw c.new-bodies.ensures.items (cut_zone (cut g (goal.at.returns-clause-items g c).After-meets))
 
 pub returns-clause-opened : goal.returns-clause-opened
 returns-clause-opened g c = (taken g c).steps_are ∙ ap (λ n. c.args.steps.now + n) (cut_opened (cut g (goal.at.returns-clause-opened g c).After-meets))

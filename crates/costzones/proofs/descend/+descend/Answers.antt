@@ -1,11 +1,11 @@
-use Rattle.std.proofs.Common.{◌+◌, ℕ, arith, rules, ap, sym, ◌∙◌}
+use Rattle.std.proofs.Common.{◌+◌, ℕ, [], arith, rules, ap, sym, ◌∙◌}
 use Rattle.std.proofs.lemmas.Bool.{ltb-true}
 use Rattle.bh_model.specs.Zones.{cost_at}
 use Rattle.octree.proofs.Laws.{child_bodies, child_height, child_octree}
 use Rattle.octree.specs.Spot.{tree_under}
 use Rattle.costzones.specs.Ranges.{meets}
-use Rattle.costzones.proofs.Descents.{cost_fits, costs_positive, gathered_broken, gathered_items, gathered_more, gathered_none, gathered_opened}
-use Rattle.costzones.proofs.Descents.{gathered_skip, items_before, items_none, items_one, opened_nothing, opened_one}
+use Rattle.costzones.proofs.Descents.{cost_fits, costs_positive, gathered_all, gathered_broken, gathered_more, gathered_none, taken_apart, taken_before}
+use Rattle.costzones.proofs.Descents.{taken_none, taken_one}
 use Rattle.costzones.proofs.Gatherings.{IsWhole, whole_inside}
 use Rattle.costzones.proofs.descend.+descend.Goals.{After-gather, then-meets+in_ok-descend-in-Cell, else-meets}
 use Rattle.costzones.proofs.descend.+descend.Goals as goal
@@ -19,7 +19,13 @@ cost_of-requires-clause-costs_of_bodies g t c n i =
 
 pub overflow_add-next : goal.overflow_add-next
 overflow_add-next g t c =
-    omega (arith, cost_fits _ _ c.loop-k.invariant c.loop-k-test.true c.child-child.ensures.tree c.in-Cell.ensures.tree, c.cost_of.ensures, c.requires.after, c.ranges.after)
+    omega (
+      arith,
+      cost_fits c.loop-k.invariant c.loop-k-test.true c.child-child.ensures.tree c.in-Cell.ensures.tree,
+      c.cost_of.ensures,
+      c.requires.after,
+      c.ranges.after,
+    )
 
 pub descend-requires : goal.descend-requires
 descend-requires g t c κs within =
@@ -38,69 +44,57 @@ descend-requires g t c κs within =
 
 pub returns-in_err-descend-in-Cell-clause-few : goal.returns-in_err-descend-in-Cell-clause-few
 returns-in_err-descend-in-Cell-clause-few g t c =
-    gathered_broken _ _ _ c.loop-k.invariant c.loop-k-test.true c.child-child.ensures.tree c.descend.ensures.few c.in-Cell.ensures.tree c.requires.meets
+    gathered_broken c.loop-k.invariant c.in-Cell.ensures.tree c.requires.meets _ c.loop-k-test.true c.child-child.ensures.tree c.descend.ensures.few
 
 pub loop-k-preserved : goal.loop-k-preserved
 loop-k-preserved g t c =
     let one = costs_positive (tree_under c.child-child.result) c.args.cut.now.costs.now
     (λ n i. c.requires.costs_of_bodies n (child_bodies _ _ _ _ n c.in-Cell.ensures c.child-child.ensures c.loop-k-test.true i)) c.requires.costs in
+    let next = ap (λ n. c.loop-k.at + n) c.cost_of.ensures in
     elim c.if-meets.branch [
       | then-meets+in_ok-descend-in-Cell w ↦
+          let taken = w.in_ok-descend-in-Cell.ensures in
           rw (w.bodies-is, w.steps-is)
-          (gathered_more _ _ _ _ c.loop-k.invariant c.child-child.ensures.tree (ap (λ n. c.loop-k.at + n) c.cost_of.ensures)
-          w.in_ok-descend-in-Cell.ensures.items w.in_ok-descend-in-Cell.ensures.opened)
+          (gathered_more c.loop-k.invariant c.child-child.ensures.tree next record { items_are = taken.items; steps_are = taken.opened })
       | else-meets w ↦
           rw (w.bodies-is, w.steps-is)
-          (gathered_skip _ _ c.loop-k.invariant c.child-child.ensures.tree (ap (λ n. c.loop-k.at + n) c.cost_of.ensures) one
-          (sym c.meets.ensures ∙ w.if-meets.false))
+          (gathered_more c.loop-k.invariant c.child-child.ensures.tree next (taken_apart _ one next (sym c.meets.ensures ∙ w.if-meets.false)))
     ]
 
 pub returns-in-Nothing-clause-items : goal.returns-in-Nothing-clause-items
-returns-in-Nothing-clause-items g t c = items_none _ _ _ _ _ c.args.bodies.now.items c.in-Nothing.ensures.tree
+returns-in-Nothing-clause-items g t c = (taken_none {first = 0} c.in-Nothing.ensures.tree).items_are
 
 pub returns-in-Nothing-clause-opened : goal.returns-in-Nothing-clause-opened
-returns-in-Nothing-clause-opened g t c =
-    omega (
-      arith,
-      opened_nothing (cost_at c.args.cut.now.costs.now) c.args.cut.now.low c.args.cut.now.high c.args.before (tree_under c.args.node)
-          c.in-Nothing.ensures.tree,
-    )
+returns-in-Nothing-clause-opened g t c = (taken_none {start = []} c.in-Nothing.ensures.tree).steps_are
 
 pub returns-in-Ok-clause-items : goal.returns-in-Ok-clause-items
 returns-in-Ok-clause-items g t c =
     let met = ltb-true _ _ c.requires.meets in
-    items_one _ _ _ _ _ _ c.args.bodies.now.items _ c.in-Body.ensures.tree (omega arith) (omega arith) c.in-Ok.ensures.items
+    (taken_one {first = 0} c.in-Body.ensures.tree (omega arith) (omega arith) c.in-Ok.ensures.items).items_are
 
 pub returns-in-Ok-clause-opened : goal.returns-in-Ok-clause-opened
 returns-in-Ok-clause-opened g t c =
-    omega (
-      arith,
-      opened_one (cost_at c.args.cut.now.costs.now) c.args.cut.now.low c.args.cut.now.high c.args.before c.in-Body.n (tree_under c.args.node)
-          c.in-Body.ensures.tree,
-    )
+    let met = ltb-true _ _ c.requires.meets in
+    (taken_one c.in-Body.ensures.tree (omega arith) (omega arith) c.in-Ok.ensures.items).steps_are
 
 pub returns-else-cut-before-2-clause-items : goal.returns-else-cut-before-2-clause-items
-returns-else-cut-before-2-clause-items g t c = items_before _ _ _ _ _ _ c.args.bodies.now.items c.in-Body.ensures.tree (omega arith)
+returns-else-cut-before-2-clause-items g t c = (taken_before {first = 0} c.in-Body.ensures.tree (omega arith)).items_are
 
 pub returns-else-cut-before-2-clause-opened : goal.returns-else-cut-before-2-clause-opened
-returns-else-cut-before-2-clause-opened g t c =
-    omega (
-      arith,
-      opened_one (cost_at c.args.cut.now.costs.now) c.args.cut.now.low c.args.cut.now.high c.args.before c.in-Body.n (tree_under c.args.node)
-          c.in-Body.ensures.tree,
-    )
+returns-else-cut-before-2-clause-opened g t c = (taken_before {start = []} c.in-Body.ensures.tree (omega arith)).steps_are
 
 pub returns-after-loop-k-clause-items : goal.returns-after-loop-k-clause-items
-returns-after-loop-k-clause-items g t c = gathered_items _ c.loop-k.invariant (omega arith) c.in-Cell.ensures.tree
+returns-after-loop-k-clause-items g t c = (gathered_all c.loop-k.invariant c.in-Cell.ensures.tree c.requires.meets (omega arith)).items_are
 
 pub returns-after-loop-k-clause-opened : goal.returns-after-loop-k-clause-opened
-returns-after-loop-k-clause-opened g t c = gathered_opened _ c.loop-k.invariant (omega arith) c.in-Cell.ensures.tree c.requires.meets
+returns-after-loop-k-clause-opened g t c = (gathered_all c.loop-k.invariant c.in-Cell.ensures.tree c.requires.meets (omega arith)).steps_are
 
 pub returns-after-loop-k-clause-few : goal.returns-after-loop-k-clause-few
-returns-after-loop-k-clause-few g t c = omega (arith, gathered_opened _ c.loop-k.invariant (omega arith) c.in-Cell.ensures.tree c.requires.meets)
+returns-after-loop-k-clause-few g t c = omega (arith, (gathered_all c.loop-k.invariant c.in-Cell.ensures.tree c.requires.meets (omega arith)).steps_are)
 
 -- the whole span lies in the range
-whole : (g : _) (t : ℕ) (c : After-gather g t) → IsWhole (cost_at c.args.cut.now.costs.now) c.args.cut.now.low c.args.cut.now.high c.args.before (tree_under c.args.node)
+whole : (g : _) (t : ℕ) (c : After-gather g t)
+    → IsWhole (cost_at c.args.cut.now.costs.now) c.args.cut.now.low c.args.cut.now.high c.args.before (tree_under c.args.node)
 whole g t c =
     whole_inside _ _ _ _ _ _ (costs_positive _ c.args.cut.now.costs.now c.requires.costs_of_bodies c.requires.costs) c.if-cut-before.true c.requires.after
     c.if-after-cut.true

@@ -6,7 +6,8 @@ use Rattle.octree.specs.Spot.{IsReachable, Spot, tree_under}
 use Rattle.octree.specs.Stored.{Stored}
 use Rattle.mass_moments.proofs.Bounds.{products_in_cube}
 use Rattle.mass_moments.proofs.ChildMoments.{moment_listed}
-use Rattle.mass_moments.proofs.Fillings.{body_more, cell_itself, cell_more, child_body, child_reached, filled_cell, filled_start, more_fits, nothing_more, part_fits, whole_cell}
+use Rattle.mass_moments.proofs.Fillings.{body_more, cell_itself, cell_more, child_body, child_reached, filled_cell, filled_start, more_fits}
+use Rattle.mass_moments.proofs.Fillings.{nothing_more, part_fits, whole_cell}
 use Rattle.mass_moments.specs.Filling.{AreProductsInCube}
 use Rattle.bh_model.specs.Zones.{cost_at}
 use Rattle.mass_moments.specs.Kept.{matter_of}
@@ -47,7 +48,8 @@ fill_cell-requires t c =
           c.requires.rule,
           (
             λ n i. c.requires.bodies_in n
-                (child_bodies _ _ _ _ n c.requires.cell c.child-child.ensures c.loop-k-test.true (subst (λ (s : Spot). IsIn (order (tree_under s)) n) met.same i)),
+                (child_bodies _ _ _ _ n c.requires.cell c.child-child.ensures c.loop-k-test.true
+                (subst (λ (s : Spot). IsIn (order (tree_under s)) n) met.same i)),
             (
               c.requires.one_cost_each,
               (
@@ -89,9 +91,11 @@ loop-k-preserved t c =
       | in-Cell w ↦
           rw (w.list-is, w.centres-is, w.whole-is, w.below-is)
           record {
-            filled = cell_more c.requires.cell is small upto w.in-Cell.ensures w.fill_cell.ensures.filled w.fill_cell.ensures.value w.plus-whole-in-Cell.ensures;
+            filled = cell_more c.requires.cell is small upto w.in-Cell.ensures w.fill_cell.ensures.filled w.fill_cell.ensures.value
+                w.plus-whole-in-Cell.ensures;
             centred = w.fill_cell.ensures.centred;
-            below_within = omega (arith, c.requires.cells_in _ (child_reached is w.in-Cell.ensures), w.number-below.ensures, c.loop-k.auto.list, w.fill_cell.auto.list);
+            below_within = omega
+                (arith, c.requires.cells_in _ (child_reached is w.in-Cell.ensures), w.number-below.ensures, c.loop-k.auto.list, w.fill_cell.auto.list);
           }
     ]
 
