@@ -9,6 +9,7 @@ mod Texts
 mod Counts
 mod Rooms
 mod WholeWords
+mod EachOnce
 mod Builds
 mod CanonicalTrees
 mod Subtrees

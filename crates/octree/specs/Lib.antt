@@ -3,3 +3,4 @@ pub mod Node
 pub mod Chain
 pub mod Spot
 pub mod Subtree
+pub mod Ranks

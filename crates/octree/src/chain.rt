@@ -41,7 +41,7 @@ fn add_cell(words: &mut Vec<u64>, cell: u32, key: u64)
     ensures added { IsCellAdded words.old.items words.new.items cell key }
     ensures room { vec_capacity words.old ≤ vec_capacity words.new }
 {
-    match words.resize(words_of_cells(cell + 1), 0) {
+    match words.extend_from_slice(&[0; CELL_WORDS]) {
         Ok(()) => words[place_of_key(cell)] = key,
         Err(_) => unreachable!(),
     }

@@ -3,15 +3,16 @@
 #![tactic(auto)]
 
 mod chain;
-mod count;
-mod depth;
 mod descend;
+mod extent;
 mod node;
 mod octree;
 mod order;
+mod ranks;
 mod subtree;
 mod text;
 
+pub use extent::Extent;
 pub use node::{CellNo, Node};
 pub use octree::Octree;
 pub use subtree::{CellAt, Subtree, Top};

@@ -1,11 +1,11 @@
 //! The octree of bodies.
 
 use crate::chain::{Cube, cells_of_words, part_two, words_of_cells};
-use crate::count::count_cells;
-use crate::depth::deepest_body;
 use crate::descend::find_place;
+use crate::extent::{Extent, extent_of};
 use crate::node::{CellNo, Node, node_of};
 use crate::order::push_order;
+use crate::ranks::{body_of, ranks_of};
 use crate::subtree::Subtree;
 use crate::text::put_tree;
 use bh_outside::{Failed, Sink, TextBuffer};
@@ -14,7 +14,7 @@ use std::alloc::Global;
 use std::marker::Model;
 use tree_rule::{CELLS_OF_ONE, MOST_CELLS, place_of_child, word_of_body, word_of_cell};
 
-/// How many cells a tree of many points begins with.
+/// How many cells a tree of many points begins with at least.
 const FIRST_CELLS: u32 = 1024;
 
 /// The octree of the bodies of a cube, kept in words: the word that names the root, two words that
@@ -276,18 +276,31 @@ impl Octree {
     }
 
     /// The canonical octree of all points of a list, each body by its point's number, made by
-    /// inserting one body after another.
+    /// inserting one body after another. They come in the order of their points' Morton keys, so
+    /// that cells lie in memory much as walks through the tree meet them.
     pub fn of_points(alloc: Global, points: &Points) -> Result<Octree, OutOfMemory>
         ensures { IfOk result (λ t. IsOctreeOf points.now t) }
     {
         let count = points.len();
-        let mut tree = Octree::empty(alloc, FIRST_CELLS.min(CELLS_OF_ONE * count))?;
-        for n in 0..count {
+        let ranks = ranks_of(alloc, points)?;
+        let first = count.max(FIRST_CELLS.min(CELLS_OF_ONE * count));
+        let mut tree = Octree::empty(alloc, first)?;
+        for rank in &ranks {
             tree.reserve(CELLS_OF_ONE)?;
-            tree.insert(points, n);
+            tree.insert(points, body_of(*rank));
         }
         tree.canonical_tree(points);
         Ok(tree)
+    }
+
+    /// How large the tree is: how many cells can be reached, and the greatest level of a word that
+    /// names a body.
+    pub fn extent(&self) -> Extent
+        ensures numbers { result.cells ≡ length (cells_of self.now) }
+        ensures tree { result.cells ≡ cell_count (tree_of self.now) }
+        ensures depth { result.depth ≡ depth (tree_of self.now) }
+    {
+        extent_of(self.whole(), 0)
     }
 
     /// How many cells can be reached.
@@ -295,7 +308,7 @@ impl Octree {
         ensures numbers { result ≡ length (cells_of self.now) }
         ensures tree { result ≡ cell_count (tree_of self.now) }
     {
-        count_cells(self.whole(), 0)
+        self.extent().cells
     }
 
     /// The greatest level of a word that names a body, counted from the root's word, which is of level
@@ -303,7 +316,7 @@ impl Octree {
     pub fn depth(&self) -> u32
         ensures { result ≡ depth (tree_of self.now) }
     {
-        deepest_body(self.whole(), 0)
+        self.extent().depth
     }
 
     /// The bodies in tree order: those of child 0 first, then those of child 1, and so on.
