@@ -1,10 +1,10 @@
 -- What an engine holds at a stage.
-use Rattle.std.proofs.Common.{◌≡◌, ◌∙◌, List, Option, Some, ap, subst}
+use Rattle.std.proofs.Common.{◌≡◌, ◌∙◌, List, Some, ap, subst}
 use Rattle.octant_code.specs.Space.{Site}
 use Rattle.octree.specs.Stored.{IsOctreeOf}
 use Rattle.octree.specs.Stored.{Stored}
 use Rattle.scene_file.specs.Bodies.{sites_of}
-use Rattle.frame_core.specs.Engines.{EngineStage, EngineState, WithTree}
+use Rattle.frame_core.specs.Engines.{EngineState, WithTree}
 use Rattle.frame_core.specs.Held.{AreParts, HasLast, IsEngine, KeepsStage, stage_of, state_of}
 use Rattle.frame_core.specs.declared.engine.Engine.TheInside.{Inside}
 use Rattle.frame_core.specs.declared.stage.FrameParts.{FrameParts}

@@ -3,7 +3,6 @@ use Rattle.std.proofs.Common.{◌≡◌, ◌<◌, ◌≤◌, ℕ, zero, suc, Lis
 use Rattle.std.specs.List.{Any}
 use Rattle.std.proofs.lemmas.List.{get_or-map, length-map}
 use Rattle.octant_code.specs.Points.{ArePoints, site_at}
-use Rattle.octant_code.specs.Space.{IsInCube}
 use Rattle.bh_model.proofs.Cells.{ArePlaced, placed_of_points}
 use Rattle.bh_model.proofs.Lists.{in_numbers, numbers_once}
 use Rattle.bh_model.proofs.Orders.{numbers_in_order, order_has_none_twice, order_members}

@@ -1,16 +1,14 @@
 -- What contracts see of an engine.
-use Rattle.std.specs.Prelude.{ℕ, pos, ◌*◌, ◌^◌, ◌≡◌, List, Option, None, Some, length, map, ⊤}
-use Rattle.std.specs.List.{All}
-use Rattle.octant_code.specs.Space.{IsInCube, Site}
+use Rattle.std.specs.Prelude.{ℕ, pos, ◌*◌, ◌^◌, List, Option, None, Some, length, map, ⊤}
+use Rattle.octant_code.specs.Space.{Site}
 use Rattle.bh_model.specs.Motions.{Exact, Velocity}
 use Rattle.bh_model.specs.Plans.{TreePlan}
-use Rattle.bh_model.specs.Zones.{first_costs, zones}
-use Rattle.force_walk.specs.Walks.{pulls}
-use Rattle.mass_moments.specs.Kept.{IsCost, cost_at, matter_of}
+use Rattle.bh_model.specs.Zones.{first_costs}
+use Rattle.mass_moments.specs.Kept.{cost_at}
 use Rattle.probe.specs.Figures.{FrameFigures}
 use Rattle.scene_file.specs.Bodies.{sites_of}
 use Rattle.scene_file.specs.declared.bodies.Body.{Body}
-use Rattle.frame_core.specs.Frames.{frame_figures, tree_of_bodies}
+use Rattle.frame_core.specs.Frames.{frame_figures}
 use Rattle.frame_core.specs.Shares.{first_shares}
 
 -- how far an engine is with its bodies' points: they have no tree, a tree, or a tree and a frame, or a call was refused

@@ -1,5 +1,5 @@
 -- What an engine holds.
-use Rattle.std.specs.Prelude.{◌≡◌, ℕ, List, Some, length, map, ⊤}
+use Rattle.std.specs.Prelude.{◌≡◌, Some, length, map, ⊤}
 use Rattle.std.specs.List.{All}
 use Rattle.bh_model.specs.Zones.{zones}
 use Rattle.force_walk.specs.Walks.{pulls}

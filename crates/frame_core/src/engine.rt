@@ -4,7 +4,7 @@ ghost use Rattle.std.specs.Prelude.{IfOk};
 
 use crate::shares::first_shares;
 use crate::stage::{FrameParts, Stage};
-use crate::sums::{greatest_cost, sum_up, whole_cost};
+use crate::sums::{greatest_cost, sum_up};
 use crate::tree::KeptTree;
 use bh_model::{Plan, Pull};
 use costzones::zones;
@@ -144,11 +144,13 @@ impl Engine {
         let cut = zones.as_slice();
         let pulls = pulls(rt, self.alloc, tree, &moments, bodies, cut, &plan.law)?;
         let sums = sum_up(bodies, &pulls);
+        let size = tree.extent();
         let figures = Frame {
             step: self.step,
             bodies: count,
-            cells: tree.cells(),
-            cost: whole_cost(tree, &moments, costs),
+            cells: size.cells,
+            depth: size.depth,
+            cost: moments.cost_of(&tree.whole(), costs),
             greatest: greatest_cost(cut, costs),
             met: sums.met,
             push_x: sums.push_x,

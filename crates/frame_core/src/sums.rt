@@ -1,28 +1,15 @@
 //! Sums over the bodies of a frame.
 
 ghost use Rattle.std.specs.Prelude.{◌≡◌, ◌-◌, ◌^◌, ◌<◌, ◌+ℤ◌, ◌*ℤ◌, pos, ℕ, All, length, map};
-ghost use Rattle.bh_model.specs.Bodies.{IsIn};
 ghost use Rattle.bh_model.specs.Pulls.{IsWithin};
-ghost use Rattle.bh_model.specs.Trees.{greatest, order};
+ghost use Rattle.bh_model.specs.Trees.{greatest};
 ghost use Rattle.bh_model.specs.Zones.{cost_of};
 ghost use Rattle.force_walk.specs.Walks.{IsPullAmong};
 ghost use Rattle.frame_core.specs.Pushes.{met_by, push_by};
-ghost use Rattle.mass_moments.specs.Kept.{HaveCosts, cost_at};
-ghost use Rattle.octree.specs.Stored.{tree_of};
+ghost use Rattle.mass_moments.specs.Kept.{cost_at};
 
 use bh_model::Pull;
-use mass_moments::Moments;
-use octree::Octree;
 use scene_file::Bodies;
-
-/// The cost of all bodies of an octree.
-pub fn whole_cost(tree: &Octree, moments: &Moments, costs: &[u32]) -> u64
-    requires costs_of_bodies { (n : ℕ) → IsIn (order (tree_of tree.now)) n → n < length costs.now }
-    requires moments { HaveCosts tree.now (cost_at costs.now) moments.now }
-    ensures { result ≡ cost_of (cost_at costs.now) (order (tree_of tree.now)) }
-{
-    moments.cost_of(&tree.whole(), costs)
-}
 
 /// The cost of the bodies of a zone.
 fn zone_cost(zone: &[u32], costs: &[u32]) -> u64

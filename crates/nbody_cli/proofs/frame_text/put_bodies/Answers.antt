@@ -1,6 +1,5 @@
 use Rattle.std.proofs.Common.{◌≡◌, ◌<◌, arith, length, subst}
 use Rattle.std.proofs.lemmas.List.Folds.{flat_map-map}
-use Rattle.octant_code.specs.Points.{site_at}
 use Rattle.octant_code.specs.Space.{Site}
 use Rattle.bh_model.specs.Bodies.{numbers}
 use Rattle.bh_model.specs.declared.pull.Pull.{Pull}
@@ -9,7 +8,6 @@ use Rattle.bh_outside.proofs.Texts.{puts_none}
 use Rattle.nbody_cli.proofs.Rows.{number_all, number_failed, number_more, numbers-none}
 use Rattle.nbody_cli.specs.Frames.{body_line, body_line_of}
 use Rattle.nbody_cli.specs.Lines.{line_text}
-use Rattle.scene_file.specs.Bodies.{sites_of}
 use Rattle.nbody_cli.proofs.frame_text.put_bodies.Goals as goal
 
 -- the point and the pull of a body, in a fact on its line

@@ -1,4 +1,4 @@
-use Rattle.std.proofs.Common.{◌≡◌, ◌++◌, ◌∙◌, List, ℕ, ap, subst}
+use Rattle.std.proofs.Common.{◌≡◌, ◌++◌, ◌∙◌, List, ap, subst}
 use Rattle.bh_model.specs.Trees.{Tree}
 use Rattle.bh_outside.specs.Text.{PutsAll, PutsFront}
 use Rattle.frame_core.specs.Engines.{frame_of}

@@ -1,4 +1,4 @@
-use Rattle.std.proofs.Common.{List, ℕ, arith, subst}
+use Rattle.std.proofs.Common.{arith, subst}
 use Rattle.std.proofs.lemmas.List.Folds.{flat_map-map}
 use Rattle.bh_outside.specs.Text.{PutsAll, PutsFront}
 use Rattle.nbody_cli.proofs.Rows.{row_all, row_failed, row_more}

@@ -1,20 +1,25 @@
 use mir.Syntax.{w128}
 use mir.Val.{of_z, to_z}
 use Rattle.std.proofs.Common.{◌≡◌, ◌<◌, ◌≤◌, ◌^◌, ℕ, List, length, ap, subst, ◌∙◌, arith, sym}
+use Rattle.bh_model.specs.Bodies.{IsIn}
 use Rattle.bh_model.specs.Plans.{TreePlan}
-use Rattle.bh_model.specs.Trees.{cell_count, order}
+use Rattle.bh_model.specs.Trees.{Tree, cell_count, depth, order}
+use Rattle.bh_model.proofs.Totals.{total-order}
+use Rattle.bh_model.specs.Moments.{total}
 use Rattle.bh_model.specs.Zones.{cost_of, zones}
 use Rattle.force_walk.specs.Walks.{pulls}
 use Rattle.mass_moments.specs.Kept.{cost_at, matter_of}
 use Rattle.octree.specs.Stored.{tree_of}
-use Rattle.frame_core.specs.Engines.{EngineState}
 use Rattle.frame_core.specs.Frames.{frame_figures, tree_of_bodies}
-use Rattle.frame_core.specs.Held.{AreParts}
 use Rattle.frame_core.proofs.Frames.{figures, met_is, pulls_count, pulls_on, push_is, same_figures}
 use Rattle.frame_core.proofs.Pushes.{read_again}
 use Rattle.frame_core.proofs.Stages.{octree_of_stage}
 use Rattle.frame_core.proofs.Zones.{body_within, greatest_is, tree_is, zones_cover, zones_fit, zones_inside, zones_of}
 use Rattle.frame_core.proofs.engine.Engine.frame_parts.Goals as goal
+
+-- the cost of a whole tree is that of its bodies
+whole_is : (cost : ℕ → ℕ) (seen tree : Tree) (found : ℕ) → seen ≡ tree → found ≡ total cost seen → found ≡ cost_of cost (order tree)
+whole_is cost seen tree found e is = is ∙ ap (total cost) e ∙ total-order cost tree
 
 pub zones-requires-clause-costs_of_bodies : goal.zones-requires-clause-costs_of_bodies
 zones-requires-clause-costs_of_bodies g c n b =
@@ -52,12 +57,19 @@ sum_up-sums-requires-clause-one_each g c =
     ap length c.deref.ensures.value
     ∙ pulls_count c.plan.inside.law c.self.inside.bodies (tree_of c.octree-tree.result.now) c.in_ok-pulls.pulls.items c.in_ok-pulls.ensures.value
 
-pub whole_cost-requires-clause-costs_of_bodies : goal.whole_cost-requires-clause-costs_of_bodies
-whole_cost-requires-clause-costs_of_bodies g c n b =
+pub cost_of-requires-clause-costs_of_bodies : goal.cost_of-requires-clause-costs_of_bodies
+cost_of-requires-clause-costs_of_bodies g c n b =
     let i = c.self.inside in
     let octree = octree_of_stage i c.args.self.now c.in-Some.kept c.octree-tree.result.now c.self.view_is c.self.invariant c.requires c.in-Some.is
     c.octree-tree.ensures in
-    omega (arith, body_within i.bodies c.octree-tree.result.now n octree b, c.self.invariant.one_cost_each, ap length c.as_slice-costs.ensures.value)
+    let inside = subst (λ (t : Tree). IsIn (order t) n) c.whole.ensures.tree b in
+    omega (arith, body_within i.bodies c.octree-tree.result.now n octree inside, c.self.invariant.one_cost_each, ap length c.as_slice-costs.ensures.value)
+
+pub cost_of-requires-clause-moments : goal.cost_of-requires-clause-moments
+cost_of-requires-clause-moments g c = rw c.whole.ensures.octree (record {
+  within = c.in_ok-moments.ensures.within;
+  cost_is = λ d r. ap (λ m. m.cost) (c.in_ok-moments.ensures.each d r);
+})
 
 pub greatest_cost-requires-clause-inside : goal.greatest_cost-requires-clause-inside
 greatest_cost-requires-clause-inside g c w d l k e m =
@@ -81,7 +93,7 @@ greatest_cost-requires-clause-fits g c =
     let whole : cost_of cost (order (tree_of c.octree-tree.result.now)) ≡ cost_of cost (order (tree_of_bodies i.bodies)) = ap (λ t. cost_of cost (order t))
     (tree_is i.bodies c.octree-tree.result.now octree) in
     zones_fit (λ z. z.items) c.as_slice-cut.result.now cost c.plan.inside.workers (tree_of_bodies i.bodies) (2 ^ 64) cut
-    (omega (arith, whole, c.whole_cost.ensures, c.whole_cost.type_inv))
+    (omega (arith, whole, whole_is cost _ _ c.cost_of.result c.whole.ensures.tree c.cost_of.ensures, c.cost_of.type_inv))
 
 pub returns : goal.returns
 returns g c =
@@ -102,12 +114,13 @@ returns g c =
     let read : c.deref.result.now ≡ pulls law (matter_of bodies) (length bodies) (tree_of_bodies bodies) = c.deref.ensures.value ∙ all in
     let sums = c.sum_up-sums.ensures in
     let F : TreePlan → Type 0 = λ p.
-    figures i.step c.len-count.result c.cells.result c.whole_cost.result c.greatest_cost.result c.sum_up-sums.result.met
+    figures i.step c.len-count.result c.extent-size.result.cells c.extent-size.result.depth c.cost_of.result c.greatest_cost.result c.sum_up-sums.result.met
     (to_z w128 (of_z w128 c.sum_up-sums.result.push_x))
     (to_z w128 (of_z w128 c.sum_up-sums.result.push_y)) (to_z w128 (of_z w128 c.sum_up-sums.result.push_z)) ≡ frame_figures p (cost_at costs) i.step bodies in
     let told = subst F c.plan.view_is
-    (same_figures i.step _ _ _ _ _ _ _ _ _ _ _ _ _ _ _ _ c.len-count.ensures.value (c.cells.ensures.tree ∙ ap cell_count tree)
-    (c.whole_cost.ensures ∙ ap (λ t. cost_of (cost_at costs) (order t)) tree)
+    (same_figures i.step _ _ _ _ _ _ _ _ _ _ _ _ _ _ _ _ _ _ c.len-count.ensures.value (c.extent-size.ensures.tree ∙ ap cell_count tree)
+    (c.extent-size.ensures.depth ∙ ap depth tree)
+    (whole_is (cost_at costs) _ _ c.cost_of.result c.whole.ensures.tree c.cost_of.ensures ∙ ap (λ t. cost_of (cost_at costs) (order t)) tree)
     (c.greatest_cost.ensures ∙ greatest_is (λ z. z.items) c.as_slice-cut.result.now (cost_at costs) workers (tree_of_bodies bodies) cut)
     (sums.met ∙ met_is law bodies c.deref.result.now read)
     (read_again c.sum_up-sums.result.push_x sums.small_x ∙ sums.push_x ∙ push_is (λ p. p.ax) law bodies c.deref.result.now read)
