@@ -1,9 +1,9 @@
 -- Counting the cells of a word, child by child.
-use Rattle.std.proofs.Common.{ℕ, ◌+◌, ◌*◌, ◌<◌, ◌≤◌, ◌≡◌, zero, suc, refl, sym, ◌∙◌, ap, arith, List, [], length, length-append}
+use Rattle.std.proofs.Common.{ℕ, ◌+◌, ◌*◌, ◌<◌, ◌≤◌, ◌≡◌, zero, suc, refl, sym, ◌∙◌, add-one, ap, arith, List, [], length, length-append}
 use Rattle.octant_code.proofs.Keys.{pow8-mono}
 use Rattle.bh_model.proofs.Lists.{joined}
-use Rattle.bh_model.proofs.Trees.{keys-body, keys-cell, keys-empty}
-use Rattle.bh_model.specs.Trees.{Empty, Tree, cell_count, cell_keys_from}
+use Rattle.bh_model.proofs.Folds.{count_none, count_one, counts, counts_all, counts_next, counts_start}
+use Rattle.bh_model.specs.Trees.{Empty, Tree, cell_count}
 use Rattle.tree_rule.specs.Sound.{HereAs, IsReachedAs}
 use Rattle.tree_rule.specs.Words.{at_of, cell_word, cells_from, child_place, tree_from}
 use Rattle.tree_rule.proofs.Laws.{ACell, NoBody, OneBody, WordIs, cells-body, cells-cell, cells-empty, cells_once, cells_read, few_below, forget, tree-body}
@@ -32,30 +32,30 @@ cells_few o h =
     let f = cells_read at (at 0) o.base 22 o.base (at 0) c top (word_is (at 0)) i in
     h.cells_used c (forget at (at 0) o.base f.key (cell_word c) f.read))
 
--- lists of equal lengths, joined
-joined_lengths : (g h : ℕ → List ℕ) (n : ℕ) → ((k : ℕ) → k < n → length (g k) ≡ length (h k)) → length (joined g n) ≡ length (joined h n)
-joined_lengths g h zero same = refl
-joined_lengths g h (suc n) same =
-    omega (arith, length-append (joined g n) (g n), length-append (joined h n) (h n), joined_lengths g h n (λ k l. same k (omega arith)), same n (omega arith))
+-- lists as long as the children have cells, joined
+joined_counts : (g : ℕ → List ℕ) (f : ℕ → Tree) (n : ℕ) → ((k : ℕ) → k < n → length (g k) ≡ cell_count (f k)) → length (joined g n) ≡ counts f n
+joined_counts g f zero same = sym (counts_start f)
+joined_counts g f (suc n) same =
+    omega (arith, length-append (joined g n) (g n), joined_counts g f n (λ k l. same k (omega arith)), same n (omega arith), counts_next f (f n) n refl,
+    ap (counts f) (add-one n))
 
 -- a word has as many cells as its tree
-count_of_tree : (at : ℕ → ℕ) (below key w : ℕ) → WordIs w → length (cells_from at below w) ≡ length (cell_keys_from (tree_from at below w) key)
-count_of_tree at zero key w is =
-    ap length (cells_at_end at 0 w refl) ∙ ap length (sym (keys-empty key)) ∙ ap (λ t. length (cell_keys_from t key)) (sym (tree-zero at w))
-count_of_tree at (suc below) key w (NoBody e) =
-    ap length (cells-empty at (suc below) w e) ∙ ap length (sym (keys-empty key))
-    ∙ ap (λ t. length (cell_keys_from t key)) (sym (tree-empty at below)) ∙ ap (λ v. length (cell_keys_from (tree_from at (suc below) v) key)) (sym e)
-count_of_tree at (suc below) key w (OneBody n e) =
-    ap length (cells-body at (suc below) w n e) ∙ ap length (sym (keys-body n key))
-    ∙ ap (λ t. length (cell_keys_from t key)) (sym (tree-body at below n)) ∙ ap (λ v. length (cell_keys_from (tree_from at (suc below) v) key)) (sym e)
-count_of_tree at (suc below) key w (ACell c e) =
-    let f : ℕ → Tree = λ k. tree_from at below (at (child_place c k)) in
-    ap length (cells-cell at below w c e)
-    ∙ ap suc (joined_lengths (λ k. cells_from at below (at (child_place c k))) (λ k. cell_keys_from (f k) (8 * key + k)) 8
-    (λ k l. count_of_tree at below (8 * key + k) (at (child_place c k)) (word_is (at (child_place c k)))))
-    ∙ ap length (sym (keys-cell f key)) ∙ ap (λ t. length (cell_keys_from t key)) (sym (tree-cell at below c))
-    ∙ ap (λ v. length (cell_keys_from (tree_from at (suc below) v) key)) (sym e)
+count_of_tree : (at : ℕ → ℕ) (below w : ℕ) → WordIs w → length (cells_from at below w) ≡ cell_count (tree_from at below w)
+count_of_tree at zero w is = ap length (cells_at_end at 0 w refl) ∙ sym (count_none _ (tree-zero at w))
+count_of_tree at (suc below) w (NoBody e) =
+    ap length (cells-empty at (suc below) w e) ∙ sym (count_none _ (ap (tree_from at (suc below)) e ∙ tree-empty at below))
+count_of_tree at (suc below) w (OneBody n e) =
+    ap length (cells-body at (suc below) w n e) ∙ sym (count_one _ n (ap (tree_from at (suc below)) e ∙ tree-body at below n))
+count_of_tree at (suc below) w (ACell c e) =
+    let kid : ℕ → ℕ = λ k. at (child_place c k) in
+    let f : ℕ → Tree = λ k. tree_from at below (kid k) in
+    omega (
+      arith,
+      ap length (cells-cell at below w c e),
+      joined_counts (λ k. cells_from at below (kid k)) f 8 (λ k l. count_of_tree at below (kid k) (word_is (kid k))),
+      counts_all f _ (ap (tree_from at (suc below)) e ∙ tree-cell at below c),
+    )
 
 -- an octree has as many cells as its tree
 pub cells_of_tree : (o : Stored) → length (cells_of o) ≡ cell_count (tree_of o)
-cells_of_tree o = count_of_tree (at_of o.words) 22 1 (at_of o.words 0) (word_is (at_of o.words 0))
+cells_of_tree o = count_of_tree (at_of o.words) 22 (at_of o.words 0) (word_is (at_of o.words 0))

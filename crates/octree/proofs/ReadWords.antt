@@ -31,39 +31,3 @@ read_small before o place x v h l r e =
 pub reached_blank : (at : ℕ → ℕ) (top w : ℕ) → top ≡ 0 → IsReached at top w → w ≡ 0
 reached_blank at top _ e (Here w f) = f ∙ e
 reached_blank at top _ e (Below c k w r l f) = absurd (omega (arith, reached_blank at top (cell_word c) e r))
-
--- words of zeros are 0 everywhere
-pub at_blank : (n i : ℕ) → at_of (replicate n 0) i ≡ 0
-at_blank n i = elim (cases_lt i n) [
-  | inl l ↦ get_or-replicate n i 0 0 l
-  | inr l ↦ get_or_past (replicate n 0) i 0 (omega (arith, length-replicate {A = ℕ} n 0))
-]
-
--- below an empty word there is nothing to keep
-pub sound_blank : (at : ℕ → ℕ) (top base : ℕ) → top ≡ 0 → IsSound at top base
-sound_blank at top base e =
-    let none : (key w : ℕ) → IsReachedAs at top base key w → w ≡ 0 = λ key w r. reached_blank at top w e (forget at top base key w r) in
-    record {
-      keys_follow = λ key c r. absurd (omega (arith, none key (cell_word c) r));
-      shallow = λ key c r. absurd (omega (arith, none key (cell_word c) r));
-      bodies_once = λ key key' n r q. absurd (omega (arith, none key (body_word n) r));
-      more_bodies = λ key c r. absurd (omega (arith, none key (cell_word c) r));
-    }
-
--- three words of 0 are an empty octree
-pub empty_stored : (words : List ℕ) (cells : ℕ) → cells ≤ MOST_CELLS → words ≡ replicate 3 0
-    → IsStored (record { words = words; base = 1; level = 0; used = 0; held = cells })
-empty_stored words cells h e =
-    let blank : (i : ℕ) → at_of words i ≡ 0 = λ i. ap (λ y. at_of y i) e ∙ at_blank 3 i in
-    record {
-      few = h;
-      long = ap length e ∙ length-replicate {A = ℕ} 3 0;
-      used_held = omega arith;
-      shallow = omega arith;
-      base_low = omega arith;
-      base_high = omega arith;
-      unlocked = record { second = blank 1; third = blank 2; locks = λ c l. blank (lock_place c) };
-      sound = sound_blank (at_of words) (at_of words 0) 1 (blank 0);
-      cells_used = λ c p. absurd (omega (arith, reached_blank (at_of words) (at_of words 0) (cell_word c) (blank 0) p));
-      bodies_small = λ n p. absurd (omega (arith, reached_blank (at_of words) (at_of words 0) (body_word n) (blank 0) p));
-    }

@@ -6,21 +6,6 @@ use Rattle.tree_rule.specs.Words.{HasBody, at_of}
 use Rattle.tree_rule.specs.Sound.{BodiesUnder}
 use Rattle.octant_code.specs.Points.{site_at}
 
--- the rule of the octree holds with more cells
-pub roomier_stored : (o : Stored) (held : ℕ) → IsStored o → o.used ≤ held → held ≤ 1376256 → IsStored (record o { held = held })
-roomier_stored o held h more few = record {
-  few = few;
-  long = h.long;
-  used_held = more;
-  shallow = h.shallow;
-  base_low = h.base_low;
-  base_high = h.base_high;
-  unlocked = h.unlocked;
-  sound = h.sound;
-  cells_used = h.cells_used;
-  bodies_small = h.bodies_small;
-}
-
 -- the roomier octree has the same bodies
 pub roomier_bodies : (before after : Stored) (n : ℕ) → IsRoomier before after → HasBody after.words n → HasBody before.words n
 roomier_bodies before after n r b = subst (λ (words : List ℕ). HasBody words n) r.words_stay b

@@ -164,11 +164,6 @@ one_child o w c i j d e r p q x y =
       | inr z ↦ sym (child_in_child key j i one q p z)
     ]
 
--- no cell is read below a word that names none
-none_under : (at : ℕ → ℕ) (w v d : ℕ) → ((c : ℕ) → w ≡ cell_word c → ⊥) → IsReached at w v → v ≡ cell_word d → ⊥
-none_under at w _ d off (Here v e) f = off d (sym e ∙ f)
-none_under at w _ d off (Below c k v s l e) f = none_under at w (cell_word c) c off s refl
-
 -- a word is read below one of a cell's children
 record IsBelowChild (at : ℕ → ℕ) (c v : ℕ) : Type 0 where
   octant : ℕ
@@ -194,7 +189,7 @@ below_cell at c k _ l (Below d j v s m e) = Below d j v (below_cell at c k (cell
 -- nothing else is read below a word that names no cell
 word_under : (at : ℕ → ℕ) (w v : ℕ) → ((c : ℕ) → w ≡ cell_word c → ⊥) → IsReached at w v → v ≡ w
 word_under at w _ off (Here v e) = e
-word_under at w _ off (Below c k v s l e) = absurd (none_under at w (cell_word c) c off s refl)
+word_under at w _ off (Below c k v s l e) = absurd (off c (sym (word_under at w (cell_word c) off s)))
 
 -- the bodies of the tree are those that are read below the word
 abbrev HasItsBodies : Stored → ℕ → Type 0
@@ -247,7 +242,7 @@ pub top_none : (s : Spot) → s.word ≡ 0 → IsNothingAt s
 unfolding tree_under IsCellUnder
 top_none s e = record {
   tree = ap (tree_of_word s.octree) e ∙ tree-empty (at_of s.octree.words) 21;
-  bare = λ d r. none_under (at_of s.octree.words) s.word (cell_word d) d (λ c f. omega arith) r refl;
+  bare = λ d r. absurd (omega (arith, word_under (at_of s.octree.words) s.word (cell_word d) (λ c f. omega arith) r));
 }
 
 -- the spot of a body
@@ -257,7 +252,7 @@ top_body s n r e =
     let reached : HasBody s.octree.words n = subst (λ (w : ℕ). IsReached (at_of s.octree.words) (root_word s.octree) w) e (spot_read s r) in
     record {
       tree = ap (tree_of_word s.octree) e ∙ tree-body (at_of s.octree.words) 21 n;
-      bare = λ d h. none_under (at_of s.octree.words) s.word (cell_word d) d (λ c f. omega arith) h refl;
+      bare = λ d h. absurd (omega (arith, word_under (at_of s.octree.words) s.word (cell_word d) (λ c f. omega arith) h));
       reached = (bodies_of_tree s.octree r.stored n).1 reached;
       small = r.stored.bodies_small n reached;
     }

@@ -7,7 +7,7 @@ use Rattle.bh_model.proofs.MoreThan.{one_of_more}
 use Rattle.octant_code.proofs.Keys.{pow8-mono}
 use Rattle.octree.proofs.Locks.{unlocked_more}
 use Rattle.octree.proofs.Words.{at_longer, at_past}
-use Rattle.octree.specs.Stored.{AreOctreeWords, IsBlankFrom, IsStored, Stored, all_used, all_words, full_tree, spare_of, tree_with_used}
+use Rattle.octree.specs.Stored.{AreOctreeWords, IsBlankFrom, IsStored, Stored, all_used, all_words, cell_count_of, full_tree, spare_of, tree_with_used}
 use Rattle.tree_rule.proofs.Laws.{recall}
 use Rattle.tree_rule.specs.Words.{lock_place}
 use Rattle.tree_rule.specs.Sound.{IsSound}
@@ -39,10 +39,6 @@ filled o words n m h is_n is_m e =
     let left : n - m ≡ 10 * spare_of o = omega (arith, h.long, h.used_held) in
     e ∙ ap (λ y. y ++ replicate (n - m) 0) (take_all n o.words (omega (arith, h.long, h.used_held))) ∙ ap (λ k. o.words ++ replicate k 0) left
 
--- those of the spare cells are 0
-pub all_blank : (o : Stored) → IsStored o → IsBlankFrom (all_words o) o.used
-all_blank o h i l = ap (λ (at : ℕ → ℕ). at i) (all_same o) ∙ at_past o.words i (omega (arith, h.long))
-
 -- they are the words of an octree
 pub all_are : (o : Stored) → IsStored o → o.base ≡ 1 → AreOctreeWords (all_words o)
 all_are o h one =
@@ -57,28 +53,26 @@ all_are o h one =
       bodies_small = λ n r. h.bodies_small n (subst (λ (at : ℕ → ℕ). IsReached at (at 0) (body_word n)) (sym same) r);
     }
 
+-- in an octree of the whole cube stand 1 and 0 for its base and its level
+whole_cube : (P : ℕ → ℕ → Stored) (o : Stored) → IsStored o → o.base ≡ 1 → P 1 0 ≡ P o.base o.level
+whole_cube P o h one = ap (λ b. P b 0) (sym one) ∙ ap (P o.base) (sym (whole_level o h one))
+
+-- how many cells there are words of
+all_cells : (o : Stored) → IsStored o → cell_count_of (length (all_words o)) ≡ o.held
+all_cells o h = omega (arith, all_length o h)
+
 -- the tree of these words is the octree, its spare cells counted as used
 pub full_again : (o : Stored) → IsStored o → o.base ≡ 1 → full_tree (all_words o) ≡ all_used o
 full_again o h one =
-    let cells : (length (all_words o) - 3) / 10 ≡ o.held = omega (arith, all_length o h) in
-    ap (λ (n : ℕ). record { words = all_words o; base = 1; level = 0; used = n; held = n }) cells
-    ∙ ap (λ (b : ℕ). record { words = all_words o; base = b; level = 0; used = o.held; held = o.held }) (sym one)
-    ∙ ap (λ (l : ℕ). record { words = all_words o; base = o.base; level = l; used = o.held; held = o.held }) (sym (whole_level o h one))
+    let P : List ℕ → ℕ → ℕ → ℕ → Stored = λ w b l n. record { words = w; base = b; level = l; used = n; held = n } in
+    ap (P (all_words o) 1 0) (all_cells o h) ∙ whole_cube (λ b l. P (all_words o) b l o.held) o h one
 
 -- and with the number of used cells it is the octree
 pub used_again : (o : Stored) → IsStored o → o.base ≡ 1 → tree_with_used (all_words o) o.used ≡ o
 used_again o h one =
-    let cells : (length (all_words o) - 3) / 10 ≡ o.held = omega (arith, all_length o h) in
-    ap (λ (words : List ℕ). record {
-      words = words;
-      base = 1;
-      level = 0;
-      used = o.used;
-      held = (length (all_words o) - 3) / 10;
-    }) (take_at o.words (replicate (10 * spare_of o) 0) (3 + 10 * o.used) h.long)
-    ∙ ap (λ (n : ℕ). record { words = o.words; base = 1; level = 0; used = o.used; held = n }) cells
-    ∙ ap (λ (b : ℕ). record { words = o.words; base = b; level = 0; used = o.used; held = o.held }) (sym one)
-    ∙ ap (λ (l : ℕ). record { words = o.words; base = o.base; level = l; used = o.used; held = o.held }) (sym (whole_level o h one))
+    let P : List ℕ → ℕ → ℕ → ℕ → Stored = λ w b l n. record { words = w; base = b; level = l; used = o.used; held = n } in
+    ap (λ w. P w 1 0 (cell_count_of (length (all_words o)))) (take_at o.words (replicate (10 * spare_of o) 0) (3 + 10 * o.used) h.long)
+    ∙ ap (P o.words 1 0) (all_cells o h) ∙ whole_cube (λ b l. P o.words b l o.held) o h one
 
 -- below cells that are not used nothing is read
 unused_bare : (words : List ℕ) (used c : ℕ) → IsBlankFrom words used → used ≤ c → (w : ℕ) → IsReached (at_of words) (cell_word c) w

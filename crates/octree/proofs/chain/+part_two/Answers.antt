@@ -67,9 +67,7 @@ returns-then-a-b-clause-kept t c = λ i l.
 
 pub returns-then-a-b-clause-stands : goal.returns-then-a-b-clause-stands
 returns-then-a-b-clause-stands t c =
-    linked c.args.points.now c.args.words.now.items c.add_cell.new.words.items c.part_two.new.words.items c.args.used c.part_two.result c.octant-b.result
-    c.args.cube.key c.args.cube.level
-    c.args.x c.args.n c.place_of_child.result c.word_of_cell.result c.add_cell.ensures.added c.place_of_child.ensures c.octant-b.ensures.small
+    linked _ _ _ _ _ _ c.octant-b.result _ _ _ _ _ _ c.add_cell.ensures.added c.place_of_child.ensures c.octant-b.ensures.small
     c.word_of_cell.ensures c.part_two.ensures.kept
     c.part_two.ensures.more c.requires.pair
     (subst (λ (y : ℕ). StandsFor (site_at c.args.points.now) (at_of c.part_two.new.words.items) (cell_word (c.args.used + 1)) (8 * c.args.cube.key + y)
@@ -92,9 +90,7 @@ returns-else-a-b-clause-unlocked t c =
 pub returns-else-a-b-clause-stands : goal.returns-else-a-b-clause-stands
 returns-else-a-b-clause-stands t c =
     let d = goal.at.returns-else-a-b-clause-stands t c in
-    forked c.args.points.now c.args.words.now.items c.add_cell.new.words.items c.args.used c.octant-a.result c.octant-b.result c.args.cube.key
-    c.args.cube.level c.args.x c.args.n
-    c.place_of_child-else-a-b.result c.place_of_child-else-a-b-2.result c.word_of_body.result c.word_of_body-else-a-b.result c.add_cell.ensures.added
+    forked _ _ _ _ c.octant-a.result c.octant-b.result _ _ _ _ _ _ _ _ c.add_cell.ensures.added
     c.place_of_child-else-a-b.ensures
     c.place_of_child-else-a-b-2.ensures c.word_of_body.ensures c.word_of_body-else-a-b.ensures c.requires.pair (octant_x t d.After-add_cell)
     (octant_n t d.After-add_cell) c.if-a-b.false

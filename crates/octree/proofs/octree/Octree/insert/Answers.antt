@@ -79,21 +79,12 @@ some_done c =
 
 pub find_place-end-requires-clause-stands : goal.find_place-end-requires-clause-stands
 find_place-end-requires-clause-stands c =
-    let f = c.self.inside in
-    let o : Stored = record { words = f.words.items; base = f.base; level = f.level; used = f.used; held = f.held } in
-    stands_now c.args.points.now o c.args.n
-    (can_insert c.args.points.now c.args.self.now o c.args.n c.self.view_is c.self.invariant.0 c.len-rule.ensures.rule c.requires.n_in c.requires.under
+    stands_now c.args.points.now _ c.args.n
+    (can_insert c.args.points.now c.args.self.now _ c.args.n c.self.view_is c.self.invariant.0 c.len-rule.ensures.rule c.requires.n_in c.requires.under
     c.requires.canonical c.requires.fresh)
 
 pub find_place-end-requires-clause-small : goal.find_place-end-requires-clause-small
-find_place-end-requires-clause-small c =
-    let f = c.self.inside in λ w r. word_small (record {
-      words = f.words.items;
-      base = f.base;
-      level = f.level;
-      used = f.used;
-      held = f.held;
-    }) w c.self.invariant.0 r
+find_place-end-requires-clause-small c = λ w r. word_small _ w c.self.invariant.0 r
 
 pub invariant_of-self : goal.invariant_of-self
 invariant_of-self c = ((none_done c).stored, c.self.invariant.1)

@@ -11,16 +11,9 @@ rule c = subst IsStored c.self.view_is c.self.invariant.0
 -- the words that are given are those of all cells
 words_are : (c : In-Ok) → c.resize.new.self.items ≡ all_words c.args.self
 words_are c =
-    let f = c.self.inside in
+    let words = c.self.inside.words in
     subst (λ (o : Stored). c.resize.new.self.items ≡ all_words o) c.self.view_is
-    (filled (record {
-      words = f.words.items;
-      base = f.base;
-      level = f.level;
-      used = f.used;
-      held = f.held;
-    }) c.resize.new.self.items c.words_of_cells.result (vec_len f.words)
-    c.self.invariant.0 c.words_of_cells.ensures f.words.ok.0 c.in-Ok.ensures.items)
+    (filled _ c.resize.new.self.items c.words_of_cells.result (vec_len words) c.self.invariant.0 c.words_of_cells.ensures words.ok.0 c.in-Ok.ensures.items)
 
 pub returns-clause-of_words : goal.returns-clause-of_words
 returns-clause-of_words c = subst AreOctreeWords (sym (words_are c)) (all_are c.args.self (rule c) c.requires)

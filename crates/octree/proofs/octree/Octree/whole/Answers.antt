@@ -8,11 +8,10 @@ use Rattle.octree.proofs.octree.Octree.whole.Goals as goal
 -- what is known of the octree's first word
 known : (c : After-index) → IsWhole c.args.self.now (spot_at c.args.self.now c.index.result.now)
 known c =
-    let f = c.self.inside in
-    let o : Stored = record { words = f.words.items; base = f.base; level = f.level; used = f.used; held = f.held } in
-    let some : 0 < length f.words.items = omega (arith, c.self.invariant.0.long) in
+    let words = c.self.inside.words.items in
+    let some : 0 < length words = omega (arith, c.self.invariant.0.long) in
     subst (λ (y : Stored). IsWhole y (spot_at y c.index.result.now)) c.self.view_is
-    (whole_is o c.index.result.now c.self.invariant.0 (get_or_read f.words.items 0 c.index.result.now some c.index.ensures 0))
+    (whole_is _ c.index.result.now c.self.invariant.0 (get_or_read words 0 c.index.result.now some c.index.ensures 0))
 
 pub invariant_of-result : goal.invariant_of-result
 invariant_of-result c = (known (goal.at.invariant_of-result c).After-index).spot
