@@ -4,7 +4,7 @@ use Rattle.std.proofs.lemmas.Bool.{cases_lt, le-ltb, lt-ltb}
 use Rattle.std.proofs.Math.Nat.{div-add-mod, mul-le-mul_left}
 use Rattle.std.proofs.lemmas.Nat.{mul-le, one_shl, pow-add}
 use Rattle.bh_model.specs.Pulls.{PullLaw}
-use Rattle.force_walk.specs.Flat.{IsLeast}
+use Rattle.force_walk.specs.Least.{IsLeast}
 
 -- what is at most the quotient is not far
 near_test : (s y d : ℕ) → 0 < y → d ≤ s / y → ltb s (y * d) ≡ false
@@ -42,45 +42,31 @@ four_pow d h =
 square_positive : (t : ℕ) → t ≢ 0 → 0 < t * t
 square_positive t h = mul-le 1 1 t t (omega arith) (omega arith)
 
-pub least_near : (law : PullLaw) (down s near : ℕ) → down ≢ 0 → law.theta_num ≢ 0 → s ≡ 2 ^ down * 2 ^ down * (law.theta_den * law.theta_den)
+pub least_near : (law : PullLaw) (down s near : ℕ) → law.theta_num ≢ 0 → s ≡ 2 ^ down * 2 ^ down * (law.theta_den * law.theta_den)
     → near ≡ s / (law.theta_num * law.theta_num) → IsLeast law down (near + 1)
-least_near law down s near cell some e f = record {
+least_near law down s near some e f = record {
   positive = omega arith;
-  of_body = λ body. absurd (cell body);
-  of_cell = λ _ d small.
+  tells = λ d small.
       let P : ℕ → Type 0 = λ q. ltb d (q + 1) ≡ not (ltb (2 ^ down * 2 ^ down * (law.theta_den * law.theta_den)) (law.theta_num * law.theta_num * d)) in
       let Q : ℕ → Type 0 = λ w. ltb d (s / (law.theta_num * law.theta_num) + 1) ≡ not (ltb w (law.theta_num * law.theta_num * d)) in
       subst P (sym f) (subst Q e (quotient_tells s (law.theta_num * law.theta_num) d (square_positive law.theta_num some)));
 }
 
-pub least_beyond : (law : PullLaw) (down s near : ℕ) → down ≢ 0 → law.theta_num ≢ 0 → s ≡ 2 ^ down * 2 ^ down * (law.theta_den * law.theta_den)
+pub least_beyond : (law : PullLaw) (down s near : ℕ) → law.theta_num ≢ 0 → s ≡ 2 ^ down * 2 ^ down * (law.theta_den * law.theta_den)
     → near ≡ s / (law.theta_num * law.theta_num) → 2 ^ 44 ≤ near → IsLeast law down (2 ^ 44)
-least_beyond law down s near cell some e f high = record {
+least_beyond law down s near some e f high = record {
   positive = omega arith;
-  of_body = λ body. absurd (cell body);
-  of_cell = λ _ d small.
+  tells = λ d small.
       let Q : ℕ → Type 0 = λ w. ltb d (2 ^ 44) ≡ not (ltb w (law.theta_num * law.theta_num * d)) in
       subst Q e (beyond_tells s (law.theta_num * law.theta_num) d (2 ^ 44) (square_positive law.theta_num some) (omega arith) small);
 }
 
--- the same as the code has the numbers
-pub least_near_coded : (law inside : PullLaw) (down num den : ℕ) → down ≢ 0 → down ≤ 21 → num ≢ 0 → num ≡ inside.theta_num → den ≡ inside.theta_den
-    → inside ≡ law
-    → IsLeast law down ((1 * 2 ^ (2 * down)) % 2 ^ 128 * (den * den) / (num * num) + 1)
-least_near_coded law inside down num den cell shallow some n d same =
-    let num_is : num ≡ law.theta_num = n ∙ ap (λ (l : PullLaw). l.theta_num) same in
-    let den_is : den ≡ law.theta_den = d ∙ ap (λ (l : PullLaw). l.theta_den) same in
-    least_near law down ((1 * 2 ^ (2 * down)) % 2 ^ 128 * (den * den)) _ cell (λ (z : law.theta_num ≡ 0). some (num_is ∙ z))
-    (ap (λ f. f * (den * den)) (four_pow down shallow) ∙ ap (λ q. 2 ^ down * 2 ^ down * (q * q)) den_is)
-    (ap (λ t. (1 * 2 ^ (2 * down)) % 2 ^ 128 * (den * den) / (t * t)) num_is)
+-- the square of a side times the square of the denominator, as the code has the numbers
+pub coded_side : (law inside : PullLaw) (down den : ℕ) → down ≤ 21 → den ≡ inside.theta_den → inside ≡ law
+    → (1 * 2 ^ (2 * down)) % 2 ^ 128 * (den * den) ≡ 2 ^ down * 2 ^ down * (law.theta_den * law.theta_den)
+coded_side law inside down den shallow d same =
+    ap (λ f. f * (den * den)) (four_pow down shallow) ∙ ap (λ q. 2 ^ down * 2 ^ down * (q * q)) (d ∙ ap (λ (l : PullLaw). l.theta_den) same)
 
-pub least_beyond_coded : (law inside : PullLaw) (down num den : ℕ) → down ≢ 0 → down ≤ 21 → num ≢ 0 → num ≡ inside.theta_num → den ≡ inside.theta_den
-    → inside ≡ law
-    → 2 ^ 44 ≤ (1 * 2 ^ (2 * down)) % 2 ^ 128 * (den * den) / (num * num) → IsLeast law down (2 ^ 44)
-least_beyond_coded law inside down num den cell shallow some n d same high =
-    let num_is : num ≡ law.theta_num = n ∙ ap (λ (l : PullLaw). l.theta_num) same in
-    let den_is : den ≡ law.theta_den = d ∙ ap (λ (l : PullLaw). l.theta_den) same in
-    least_beyond law down ((1 * 2 ^ (2 * down)) % 2 ^ 128 * (den * den)) ((1 * 2 ^ (2 * down)) % 2 ^ 128 * (den * den) / (num * num)) cell
-    (λ (z : law.theta_num ≡ 0). some (num_is ∙ z))
-    (ap (λ f. f * (den * den)) (four_pow down shallow) ∙ ap (λ q. 2 ^ down * 2 ^ down * (q * q)) den_is)
-    (ap (λ t. (1 * 2 ^ (2 * down)) % 2 ^ 128 * (den * den) / (t * t)) num_is) high
+-- and the quotient by the square of the numerator
+pub coded_near : (law inside : PullLaw) (s num : ℕ) → num ≡ inside.theta_num → inside ≡ law → s / (num * num) ≡ s / (law.theta_num * law.theta_num)
+coded_near law inside s num n same = ap (λ t. s / (t * t)) (n ∙ ap (λ (l : PullLaw). l.theta_num) same)

@@ -1,10 +1,12 @@
+pub mod Quotients
 pub mod Distances
 pub mod Openings
 pub mod Walks
+pub mod Centres
+pub mod Places
 pub mod Flats
 pub mod Cubes
-pub mod Scenes
 pub mod Layings
-pub mod SubtreePulls
+pub mod Scenes
 pub mod Placements
-pub mod Quotients
+pub mod SubtreePulls

@@ -1,18 +1,19 @@
 -- A quotient by a rate that is a little too small: the rate counts parts of one unit of the quotient, and so many parts, the slack,
 -- may be missing.
-use Rattle.std.proofs.Common.{◌≡◌, ℕ, zero, suc, ◌+◌, ◌-◌, ◌*◌, ◌/◌, ◌%◌, ◌<◌, ◌≤◌, ◌^◌, inl, inr, leb, cond, ℤ, pos, neg_ℤ, subst, ap, ◌∙◌, sym, arith}
+use Rattle.std.proofs.Common.{◌≡◌, ℕ, zero, suc, ◌+◌, ◌-◌, ◌*◌, ◌/◌, ◌%◌, ◌<◌, ◌≤◌, ◌^◌, inl, inr, leb, cond, ℤ, pos, neg_ℤ, ap, ◌∙◌, sym, arith}
 use Rattle.std.proofs.lemmas.Nat.{mul-le, mul-lt, div-mul-add, div-add-mod'}
 use Rattle.std.proofs.lemmas.Bool.{cases_lt}
 use Rattle.std.proofs.Math.Nat.{mul_right_comm, mul-zero, zero-div}
 use Rattle.std.proofs.lemmas.Bool.Decides.{nat_tests}
-use Rattle.std.specs.Int.{w128, abs_diff}
+use Rattle.std.specs.Int.{w64, abs_diff}
 use mir.Val.{to_z, of_z}
-use Rattle.octant_code.specs.Space.{Site, IsInCube, squared_distance}
-use Rattle.octant_code.proofs.Distances.{squared_distance-small}
-use lib.Signed.{mag}
+use Rattle.octant_code.specs.Space.{Site, squared_distance}
+use Rattle.std.proofs.lemmas.Int.{ints}
 use Rattle.octant_code.specs.Numbers.{root}
-use Rattle.bh_model.specs.Pulls.{PullLaw, component, term}
-use Rattle.bh_model.proofs.Terms.{component-up, component-down, one_pull, stays, term-from}
+use Rattle.octant_code.proofs.Roots.{root-is}
+use Rattle.bh_model.specs.Pulls.{IsWithin, PullLaw, component, term}
+use Rattle.force_walk.specs.Short.{IsRate}
+use Rattle.bh_model.proofs.Terms.{component-up, component-down, one_pull, term-from}
 
 -- a quotient by its two bounds
 quotient-is : (p d q : ℕ) → q * d ≤ p → p < q * d + d → q ≡ p / d
@@ -21,7 +22,7 @@ quotient-is p d q low high =
     sym (div-mul-add q d (p - q * d) (omega arith)) ∙ ap (λ n. n / d) e
 
 -- a factor that both sides have is left out
-factor-out : (a b c : ℕ) → a * c < b * c → a < b
+pub factor-out : (a b c : ℕ) → a * c < b * c → a < b
 factor-out a b c h = elim (cases_lt a b) [ inl lt ↦ lt | inr ge ↦ absurd (omega (arith, mul-le b c a c ge (omega arith))) ]
 
 -- what is at most the quotient
@@ -46,44 +47,40 @@ share-high scale divisor rate gap unit slack q high share some =
     factor-out (scale * gap) ((q + 1) * divisor) unit e
 
 -- the share of the rate is the quotient
-pub share-is : (scale divisor rate gap unit slack : ℕ) → rate * divisor ≤ scale * unit → scale * unit < rate * divisor + slack * divisor
-    → rate * gap % unit + slack * gap ≤ unit → 0 < unit → 0 < divisor → rate * gap / unit ≡ scale * gap / divisor
-share-is scale divisor rate zero unit slack low high sure some positive =
+pub share-is : (scale divisor rate gap unit slack : ℕ) → IsRate scale divisor unit slack rate → rate * gap % unit + slack * gap ≤ unit → 0 < unit
+    → rate * gap / unit ≡ scale * gap / divisor
+share-is scale divisor rate zero unit slack is sure some =
     ap (λ n. n / unit) (mul-zero rate) ∙ zero-div unit ∙ sym (ap (λ n. n / divisor) (mul-zero scale) ∙ zero-div divisor)
-share-is scale divisor rate (suc gap) unit slack low high sure some positive =
+share-is scale divisor rate (suc gap) unit slack is sure some =
     let q : ℕ = rate * suc gap / unit in
     let split : q * unit + rate * suc gap % unit ≡ rate * suc gap = div-add-mod' (rate * suc gap) unit in
-    let below : q * divisor ≤ scale * suc gap = share-low scale divisor rate (suc gap) unit q low (omega arith) some in
-    let above : scale * suc gap < (q + 1) * divisor = share-high scale divisor rate (suc gap) unit slack q (omega arith) (omega arith) (omega arith) in
+    let below : q * divisor ≤ scale * suc gap = share-low scale divisor rate (suc gap) unit q is.low (omega arith) some in
+    let above : scale * suc gap < (q + 1) * divisor = share-high scale divisor rate (suc gap) unit slack q (omega (arith, is.high)) (omega arith) (omega arith) in
     quotient-is (scale * suc gap) divisor q below (omega arith)
 
 -- a share upwards is the coordinate of a term
-pub component-shared-up : (scale from to divisor rate gap unit slack : ℕ) → from ≤ to → gap ≡ abs_diff from to → rate * divisor ≤ scale * unit
-    → scale * unit < rate * divisor + slack * divisor → rate * gap % unit + slack * gap ≤ unit → 0 < unit → 0 < divisor
-    → pos (rate * gap / unit) ≡ component scale from to divisor
-component-shared-up scale from to divisor rate gap unit slack up is_gap low high sure some positive =
+pub component-shared-up : (scale from to divisor rate gap unit slack : ℕ) → from ≤ to → gap ≡ abs_diff from to → IsRate scale divisor unit slack rate
+    → rate * gap % unit + slack * gap ≤ unit → 0 < unit → pos (rate * gap / unit) ≡ component scale from to divisor
+component-shared-up scale from to divisor rate gap unit slack up is_gap is sure some =
     let g : gap ≡ to - from = omega arith in
-    ap pos (share-is scale divisor rate gap unit slack low high sure some positive) ∙ ap (λ n. pos (scale * n / divisor)) g
-    ∙ sym (component-up scale from to divisor up)
+    ap pos (share-is scale divisor rate gap unit slack is sure some) ∙ ap (λ n. pos (scale * n / divisor)) g ∙ sym (component-up scale from to divisor up)
 
 -- and downwards
-pub component-shared-down : (scale from to divisor rate gap unit slack : ℕ) → to ≤ from → gap ≡ abs_diff from to → rate * divisor ≤ scale * unit
-    → scale * unit < rate * divisor + slack * divisor → rate * gap % unit + slack * gap ≤ unit → 0 < unit → 0 < divisor
-    → neg_ℤ (pos (rate * gap / unit)) ≡ component scale from to divisor
-component-shared-down scale from to divisor rate gap unit slack down is_gap low high sure some positive =
+pub component-shared-down : (scale from to divisor rate gap unit slack : ℕ) → to ≤ from → gap ≡ abs_diff from to → IsRate scale divisor unit slack rate
+    → rate * gap % unit + slack * gap ≤ unit → 0 < unit → neg_ℤ (pos (rate * gap / unit)) ≡ component scale from to divisor
+component-shared-down scale from to divisor rate gap unit slack down is_gap is sure some =
     let g : gap ≡ from - to = omega arith in
-    ap (λ n. neg_ℤ (pos n)) (share-is scale divisor rate gap unit slack low high sure some positive) ∙ ap (λ n. neg_ℤ (pos (scale * n / divisor))) g
+    ap (λ n. neg_ℤ (pos n)) (share-is scale divisor rate gap unit slack is sure some) ∙ ap (λ n. neg_ℤ (pos (scale * n / divisor))) g
     ∙ sym (component-down scale from to divisor down)
 
 -- and either way
-pub component-shared : (scale from to divisor rate gap unit slack : ℕ) → gap ≡ abs_diff from to → rate * divisor ≤ scale * unit
-    → scale * unit < rate * divisor + slack * divisor → rate * gap % unit + slack * gap ≤ unit → 0 < unit → 0 < divisor
+pub component-shared : (scale from to divisor rate gap unit slack : ℕ) → gap ≡ abs_diff from to → IsRate scale divisor unit slack rate
+    → rate * gap % unit + slack * gap ≤ unit → 0 < unit
     → cond (leb from to) (pos (rate * gap / unit)) (neg_ℤ (pos (rate * gap / unit))) ≡ component scale from to divisor
-component-shared scale from to divisor rate gap unit slack is_gap low high sure some positive =
+component-shared scale from to divisor rate gap unit slack is_gap is sure some =
     elim (cases_lt to from) [
-      | inl down ↦ let q = component-shared-down scale from to divisor rate gap unit slack (omega arith) is_gap low high sure some positive in grind
-          (arith, nat_tests)
-      | inr up ↦ let q = component-shared-up scale from to divisor rate gap unit slack up is_gap low high sure some positive in grind (arith, nat_tests)
+      | inl down ↦ let q = component-shared-down scale from to divisor rate gap unit slack (omega arith) is_gap is sure some in grind (arith, nat_tests)
+      | inr up ↦ let q = component-shared-up scale from to divisor rate gap unit slack up is_gap is sure some in grind (arith, nat_tests)
     ]
 
 -- a divisor fits
@@ -105,27 +102,22 @@ root_fits n r h low =
       | inr ge ↦ absurd (omega (arith, mul-le (2 ^ 23) (2 ^ 23) r r ge ge))
     ]
 
--- a squared distance of points of the cube, with softening
-pub reach : (d2 eps2 : ℕ) (from to s t : Site) → from ≡ s → to ≡ t → IsInCube from → IsInCube to → d2 ≡ squared_distance s t → eps2 < 2 ^ 44
-    → d2 + eps2 < 2 ^ 45
-reach d2 eps2 from to s t e f p q is soft =
-    let near : squared_distance s t < 2 ^ 44 =
-    subst (λ u. squared_distance s u < 2 ^ 44) f (subst (λ u. squared_distance u to < 2 ^ 44) e (squared_distance-small from to p q)) in
-    omega arith
-
--- a term from its three coordinates, in the words of 128 bits that hold them
-pub one-term : (law l : PullLaw) (mass : ℕ) (from s to t : Site) (scale d2 r divisor : ℕ) (x y z : ℤ) → law ≡ l → from ≡ s → to ≡ t
-    → scale ≡ law.g * mass → d2 ≡ squared_distance s t → r ≡ root (d2 + law.eps2) → divisor ≡ (d2 + law.eps2) * r
+-- a term from its three coordinates
+pub one-term : (law : PullLaw) (mass : ℕ) (from s to t : Site) (scale d2 r2 r divisor : ℕ) (x y z : ℤ) → from ≡ s → to ≡ t → scale ≡ law.g * mass
+    → d2 ≡ squared_distance s t → r2 ≡ d2 + law.eps2 → r ≡ root r2 → divisor ≡ r2 * r
     → x ≡ component scale from.x to.x divisor → y ≡ component scale from.y to.y divisor → z ≡ component scale from.z to.z divisor
-    → mag x < 2 ^ 127 → mag y < 2 ^ 127 → mag z < 2 ^ 127
-    → one_pull (to_z w128 (of_z w128 x)) (to_z w128 (of_z w128 y)) (to_z w128 (of_z w128 z)) ≡ term l mass s t
-one-term law l mass from s to t scale d2 r divisor x y z law_is from_is to_is scale_is d2_is r_is divisor_is p q v p_fits q_fits v_fits =
+    → one_pull x y z ≡ term law mass s t
+one-term law mass from s to t scale d2 r2 r divisor x y z from_is to_is scale_is d2_is r2_is r_is divisor_is p q v =
     let start : d2 ≡ squared_distance from to = d2_is ∙ ap (λ k. squared_distance k t) (sym from_is) ∙ ap (λ k. squared_distance from k) (sym to_is) in
-    let r2 : ℕ = d2 + law.eps2 in
-    ap (λ k. one_pull k (to_z w128 (of_z w128 y)) (to_z w128 (of_z w128 z))) (stays x p_fits)
-    ∙ ap (λ k. one_pull x k (to_z w128 (of_z w128 z))) (stays y q_fits)
-    ∙ ap (λ k. one_pull x y k) (stays z v_fits)
-    ∙ term-from law mass from to scale r2 r x y z scale_is (ap (λ k. k + law.eps2) start) r_is
+    term-from law mass from to scale r2 r x y z scale_is (r2_is ∙ ap (λ k. k + law.eps2) start) r_is
     (p ∙ ap (λ d. component scale from.x to.x d) divisor_is) (q ∙ ap (λ d. component scale from.y to.y d) divisor_is)
     (v ∙ ap (λ d. component scale from.z to.z d) divisor_is)
-    ∙ ap (λ k. term k mass from to) law_is ∙ ap (λ k. term l mass k to) from_is ∙ ap (λ k. term l mass s k) to_is
+    ∙ ap (λ k. term law mass k to) from_is ∙ ap (λ k. term law mass s k) to_is
+
+-- a short share is kept in its word
+pub short_stays : (z : ℤ) → IsWithin (2 ^ 31) z → to_z w64 (of_z w64 z) ≡ z
+short_stays z h = omega (arith, ints, h.low, h.high)
+
+-- a guess that was tested is the root
+pub tested_root : (n r : ℕ) → (r * r ≤ n) × (n < (r + 1) * (r + 1)) → r ≡ root n
+tested_root n r h = root-is n r h.0 h.1

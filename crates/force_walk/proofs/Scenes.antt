@@ -1,27 +1,33 @@
 -- What the flat table of the canonical octree of a scene's bodies is good for.
-use Rattle.std.proofs.Common.{ℕ, ◌-◌, ◌*◌, ◌^◌, ◌<◌, ◌≡◌, List, [], length, sym, ap, ◌∙◌, subst, arith, inl, inr, append-nil, sum_by}
+use Rattle.std.proofs.Common.{ℕ, suc, ◌+◌, ◌-◌, ◌*◌, ◌^◌, ◌<◌, ◌≡◌, List, [], length, sym, ap, ◌∙◌, subst, arith, inl, inr, append-nil, slice_index, sum_by}
 use Rattle.std.proofs.lemmas.Bool.{cases_lt}
 use Rattle.std.proofs.lemmas.List.{length-map}
 use Rattle.octant_code.specs.Points.{ArePoints, site_at}
-use Rattle.octant_code.specs.Space.{Site}
+use Rattle.octant_code.specs.Space.{Site, origin}
 use Rattle.octant_code.proofs.Distances.{squared_distance-positive}
-use Rattle.bh_model.specs.Bodies.{numbers}
+use Rattle.octant_code.proofs.Keys.{key-zero}
+use Rattle.bh_model.specs.Bodies.{IsIn, numbers}
 use Rattle.bh_model.specs.Moments.{Matter, mass_of, total}
 use Rattle.bh_model.specs.Pulls.{IsPullLaw, PullLaw, add_pull, pull}
-use Rattle.bh_model.specs.Trees.{Tree}
+use Rattle.bh_model.specs.Trees.{Tree, order}
 use Rattle.bh_model.proofs.AllBodies.{sum_numbers, sum_places}
 use Rattle.bh_model.proofs.PullBounds.{StandsApart, pull_among, pull_fits, small_more}
-use Rattle.bh_model.proofs.Standing.{count_numbers, stands_of_all, total_of_all}
+use Rattle.bh_model.proofs.Cells.{placed_of_points, under_root}
+use Rattle.bh_model.proofs.Lists.{in_numbers, numbers_once}
+use Rattle.bh_model.proofs.Orders.{order_members}
+use Rattle.bh_model.proofs.Standing.{count_numbers, numbers_within, stands_of_all, total_of_all}
 use Rattle.bh_model.specs.Standing.{Stands}
 use Rattle.mass_moments.specs.Kept.{matter_of}
 use Rattle.octree.specs.Stored.{IsOctreeOf, Stored, tree_of}
 use Rattle.scene_file.specs.Bodies.{AreBodies, nobody, sites_of, total_mass}
 use Rattle.scene_file.specs.declared.bodies.Body.{Body}
 use Rattle.force_walk.specs.Cubes.{IsTreeOfCube}
-use Rattle.force_walk.specs.Flat.{flat, walked}
+use Rattle.force_walk.specs.Flat.{AreFound, flat, owners, walked}
+use Rattle.force_walk.specs.Least.{AreLeast}
 use Rattle.force_walk.specs.Walks.{IsPullAmong}
 use Rattle.force_walk.specs.declared.node.WalkNode.{WalkNode}
 use Rattle.force_walk.proofs.Flats.{walked_flat}
+use Rattle.force_walk.proofs.Places.{Lies, Sees, has_node, lies_of_list}
 use Rattle.force_walk.proofs.Walks.{add_to_none, walked_end}
 
 -- the bodies of a scene with points in the cube, and the words of their canonical octree
@@ -70,25 +76,49 @@ bodies_apart bodies n rule within =
     }
 
 -- the tree is that of the whole cube
-pub scene_cube : (bodies : List Body) (o : Stored) → IsScene bodies o → IsTreeOfCube (matter_of bodies) (length bodies) 21 1 (tree_of o)
+pub scene_cube : (bodies : List Body) (o : Stored) → IsScene bodies o → IsTreeOfCube (matter_of bodies) (length bodies) 21 (tree_of o)
 scene_cube bodies o scene = record {
   stands = scene_stands bodies o scene;
   shallow = omega arith;
-  room = omega arith;
   heavy = λ n l. scene.rule.massive n nobody l;
   light = omega (arith, scene_mass bodies o scene, scene.rule.total);
   few = omega (arith, scene_count bodies o scene, scene.rule.few);
 }
 
+-- each body's point lies in the cube that has the body's place in the tree
+scene_lies : (bodies : List Body) (o : Stored) → IsScene bodies o → Lies (matter_of bodies).site 0 1 (tree_of o)
+scene_lies bodies o scene =
+    subst (Lies (matter_of bodies).site 0 1) (sym scene.octree.tree)
+    (lies_of_list (site_at (sites_of bodies)) 21 0 1 (numbers (length (sites_of bodies))) (under_root (site_at (sites_of bodies)) _))
+
+-- each body has a node in the table
+scene_owner : (bodies : List Body) (o : Stored) (n : ℕ) → IsScene bodies o → n < length bodies → IsIn (owners (tree_of o)) (suc n)
+scene_owner bodies o n scene within =
+    let sites : List Site = sites_of bodies in
+    let placed = placed_of_points sites (numbers (length sites)) (points_of bodies o scene) (numbers_within (length sites)) in
+    has_node (tree_of o) n
+    (subst (λ (t : Tree). IsIn (order t) n) (sym scene.octree.tree)
+    ((order_members (site_at sites) (numbers (length sites)) n (numbers_once (length sites)) placed).1
+    ((in_numbers (length sites) n).1 (omega (arith, sites_long bodies)))))
+
 -- a body's walk over the table is its pull
-pub scene_walk : (law : PullLaw) (bodies : List Body) (o : Stored) (n : ℕ) → IsScene bodies o → n < length bodies
-    → walked law ((matter_of bodies).site n) (flat (matter_of bodies) 21 1 (tree_of o)) 0 ≡ pull law (matter_of bodies) n (tree_of o)
-scene_walk law bodies o n scene within =
+pub scene_walk : (law : PullLaw) (bodies : List Body) (o : Stored) (least places : List ℕ) (n : ℕ) → IsScene bodies o → AreLeast law least
+    → AreFound (owners (tree_of o)) places → n < length bodies
+    → walked law ((matter_of bodies).site n) (slice_index places n) 0 (flat (matter_of bodies) least 21 (tree_of o)) 0
+    ≡ pull law (matter_of bodies) n (tree_of o)
+scene_walk law bodies o least places n scene is found within =
     let m : Matter = matter_of bodies in
-    let nodes : List WalkNode = flat m 21 1 (tree_of o) in
-    ap (λ l. walked law (m.site n) l 0) (sym (append-nil nodes))
-    ∙ walked_flat law m (length bodies) n (bodies_apart bodies n scene.rule within) 21 1 (tree_of o) [] (scene_stands bodies o scene)
-    ∙ ap (add_pull (pull law m n (tree_of o))) (walked_end law (m.site n)) ∙ add_to_none (pull law m n (tree_of o))
+    let nodes : List WalkNode = flat m least 21 (tree_of o) in
+    let place : ℕ = slice_index places n in
+    let sees : Sees m.site (tree_of o) n place 0 0 1 = record {
+      inside = λ _. record { offset = place; is = omega arith; own = found n (scene_owner bodies o n scene within) };
+      outside = λ other. absurd (other (key-zero (m.site n)));
+    } in
+    ap (λ l. walked law (m.site n) place 0 l 0) (sym (append-nil nodes))
+    ∙ walked_flat law m least (length bodies) n place is (bodies_apart bodies n scene.rule within) (λ k l. scene.rule.massive k nobody l)
+    (λ k l. scene.rule.in_cube k origin (omega (arith, sites_long bodies))) within 21 1 0 (tree_of o) [] (omega arith) (scene_stands bodies o scene) (scene_lies bodies o scene) sees
+    ∙ ap (add_pull (pull law m n (tree_of o))) (walked_end law (m.site n) place (0 + length (owners (tree_of o))))
+    ∙ add_to_none (pull law m n (tree_of o))
 
 -- a pull of a scene is small
 pub scene_small : (law : PullLaw) (bodies : List Body) (o : Stored) (n : ℕ) → IsPullLaw law → IsScene bodies o → n < length bodies

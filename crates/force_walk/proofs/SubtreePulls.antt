@@ -1,9 +1,9 @@
 -- The pull of a subtree: of no body, of one, of a cell that is taken whole, and of one that is opened, child by child.
-use Rattle.std.proofs.Common.{ℕ, suc, ◌+◌, ◌-◌, ◌*◌, ◌^◌, ◌<◌, ◌≤◌, ◌≡◌, ◌≢◌, true, false, not, List, length, refl, sym, ap, ◌∙◌, subst, arith, inl, inr}
+use Rattle.std.proofs.Common.{ℕ, suc, ◌+◌, ◌-◌, ◌*◌, ◌^◌, ◌<◌, ◌≤◌, ◌≡◌, ◌≢◌, Bool, true, false, sym, ap, ◌∙◌, subst, arith, inl, inr}
 use Rattle.std.proofs.Math.Nat.{mul-le-mul_left}
 use Rattle.std.proofs.lemmas.Bool.{cases_Bool}
 use Rattle.std.proofs.lemmas.Bool.Decides.{eqb_tells}
-use Rattle.octant_code.specs.Space.{Site, squared_distance}
+use Rattle.octant_code.specs.Space.{Site}
 use Rattle.bh_model.specs.Moments.{Matter, centre, mass_of, total}
 use Rattle.bh_model.specs.Pulls.{IsPullLaw, IsSmall, PullLaw, is_whole, no_pull, pull_from, term}
 use Rattle.bh_model.specs.Standing.{Stands}
@@ -13,24 +13,13 @@ use Rattle.bh_model.proofs.Folds.{nth}
 use Rattle.bh_model.proofs.PullBounds.{StandsApart, pull-empty, pull-opened, pull-other, pull-own, pull-whole, pull_fits, small_more, small_none, whole_apart}
 use Rattle.bh_model.proofs.PullSums.{pull_upto, sum_scaled, upto_small}
 use Rattle.bh_model.proofs.Terms.{term-small}
-use Rattle.bh_model.proofs.Totals.{child_total, each_of_eight, sum_upto-le, total-cell, total_one}
+use Rattle.bh_model.proofs.Totals.{child_total, each_of_eight, sum_upto-le, total-cell}
 use Rattle.octree.specs.Spot.{Spot, child_under, tree_under}
 use Rattle.octree.specs.Subtree.{IsBodyAt, IsCellAt, IsChildOf, IsNothingAt}
-use Rattle.scene_file.specs.Bodies.{AreBodies}
-use Rattle.scene_file.specs.declared.bodies.Body.{Body as SceneBody}
-use Rattle.mass_moments.specs.Kept.{matter_of}
 use Rattle.force_walk.specs.Cubes.{IsTreeOfCube}
-use Rattle.force_walk.specs.Flat.{IsLaid, body_node, cell_node, is_opened}
-use Rattle.force_walk.specs.declared.node.WalkNode.{WalkNode}
-use Rattle.force_walk.proofs.Cubes.{cube_body, cube_deep, cube_massive}
-use Rattle.force_walk.proofs.Openings.{cell_opened, not_false, not_true}
-use Rattle.force_walk.proofs.Scenes.{bodies_apart}
+use Rattle.force_walk.proofs.Flats.{child_pull}
 
 -- ---- how large the pull of a tree is
-
--- the pulls of the children of a cell
-abbrev pub child_pull : PullLaw → Matter → ℕ → ℕ → ℕ → (ℕ → Tree) → ℕ → Pull
-child_pull law m n down key child k = pull_from law m n (down - 1) (8 * key + k) (child k)
 
 -- the pull of a tree is within g times its mass, and has at most as many terms as it has bodies
 abbrev IsBounded : PullLaw → Matter → Tree → Pull → Type 0
@@ -82,88 +71,41 @@ pull_none law m n down key at = sym (ap (pull_from law m n down key) at.tree ∙
 pub pull_own : {s : Spot} {j : ℕ} (law : PullLaw) (m : Matter) (n down key : ℕ) → IsBodyAt s j → j ≡ n → no_pull ≡ pull_from law m n down key (tree_under s)
 pull_own {s} {j} law m n down key at own = sym (ap (pull_from law m n down key) at.tree ∙ pull-own law m n down key j own)
 
-pub pull_other : {s : Spot} {j : ℕ} (law : PullLaw) (m : Matter) (n down key : ℕ) (from : Site) (one : WalkNode) (p : Pull) → IsBodyAt s j → j ≢ n
-    → from ≡ m.site n → one ≡ body_node m j
-    → p ≡ term law one.mass from one.at → p ≡ pull_from law m n down key (tree_under s)
-pull_other {s} {j} law m n down key from one p at other f own q =
-    q ∙ ap (λ y. term law one.mass y one.at) f ∙ ap (λ (w : WalkNode). term law w.mass (m.site n) w.at) own
+pub pull_other : {s : Spot} {j : ℕ} (law : PullLaw) (m : Matter) (n down key mass : ℕ) (from to : Site) (p : Pull) → IsBodyAt s j → j ≢ n
+    → from ≡ m.site n → mass ≡ m.mass j → to ≡ m.site j → p ≡ term law mass from to → p ≡ pull_from law m n down key (tree_under s)
+pull_other {s} {j} law m n down key mass from to p at other f e g q =
+    q ∙ ap (λ y. term law mass y to) f ∙ ap (λ y. term law y (m.site n) to) e ∙ ap (term law (m.mass j) (m.site n)) g
     ∙ sym (ap (pull_from law m n down key) at.tree ∙ pull-other law m n down key j other)
-
--- the node of another body is apart
-pub body_apart : (law : PullLaw) (bodies : List SceneBody) (n j : ℕ) (from : Site) (one : WalkNode) → AreBodies bodies → n < length bodies → j < length bodies
-    → j ≢ n
-    → from ≡ (matter_of bodies).site n → one ≡ body_node (matter_of bodies) j → 0 < squared_distance from one.at + law.eps2
-body_apart law bodies n j from one rule n_in j_in other f own =
-    let away = (bodies_apart bodies n rule n_in).apart j j_in other in
-    omega (arith, away, ap (λ s. squared_distance s one.at) f, ap (λ (w : WalkNode). squared_distance ((matter_of bodies).site n) w.at) own)
-
--- and can be walked
-pub body_laid : {m : Matter} {most down key : ℕ} {s : Spot} {j : ℕ} (one : WalkNode) → IsBodyAt s j → IsTreeOfCube m most down key (tree_under s)
-    → one ≡ body_node m j → IsLaid one
-body_laid {m} {most} {down} {key} {s} {j} one at cube own =
-    subst IsLaid (sym own)
-    (record {
-      heavy = cube.heavy j (cube_body at cube);
-      light = omega (arith, cube.light, total_one m.mass (tree_under s) j at.tree);
-      shallow = omega arith;
-      no_cube = λ _. refl;
-      long = omega arith;
-    })
 
 -- ---- a cell
 
-module _ {m : Matter} {most down key : ℕ} {s cell : Spot} (at : IsCellAt s cell) (cube : IsTreeOfCube m most down key (tree_under s)) (own : WalkNode)
-    (is : own ≡ cell_node m down key 1 (tree_under s)) where
-  -- the node of a cell can be walked
-  pub cell_laid : IsLaid own
-  cell_laid =
-      subst IsLaid (sym is)
-      (record {
-        heavy = cube_massive at cube;
-        light = cube.light;
-        shallow = cube.shallow;
-        no_cube = λ flat. absurd (omega (arith, cube_deep at cube));
-        long = omega arith;
-      })
+module _ (m : Matter) (down key : ℕ) {s cell : Spot} (at : IsCellAt s cell) (to : Site) (to_is : to ≡ centre m (tree_under s)) where
+  -- whether it is taken whole, by its centre
+  whole_is : (law : PullLaw) (n : ℕ) (from : Site) (b : Bool) → from ≡ m.site n → is_whole law down key from to ≡ b
+      → is_whole law down key (m.site n) (centre m (tree_under s)) ≡ b
+  whole_is law n from b f e = sym (ap (λ y. is_whole law down key y to) f ∙ ap (is_whole law down key (m.site n)) to_is) ∙ e
 
-  -- it is opened exactly where the cell of the tree is not taken whole
-  opened_is : (law : PullLaw) (from : Site) → is_opened law from own ≡ not (is_whole law down key from (centre m (tree_under s)))
-  opened_is law from =
-      ap (is_opened law from) is ∙ cell_opened law from (cell_node m down key 1 (tree_under s)) (λ (z : down ≡ 0). omega (arith, cube_deep at cube))
-
-  -- one that isn't is apart
-  pub cell_apart : (law : PullLaw) (from : Site) → is_opened law from own ≡ false → 0 < squared_distance from own.at + law.eps2
-  cell_apart law from taken =
-      omega (
-        arith,
-        whole_apart law down key from (centre m (tree_under s)) (not_true _ (sym (opened_is law from) ∙ taken)),
-        ap
-            (λ (w : WalkNode). squared_distance from w.at) is,
-      )
-
-  -- and its term is the pull
-  pub pull_taken : (law : PullLaw) (n : ℕ) (from : Site) (p : Pull) → from ≡ m.site n → is_opened law from own ≡ false → p ≡ term law own.mass from own.at
-      → p ≡ pull_from law m n down key (tree_under s)
-  pull_taken law n from p f taken q =
+  -- the term of one that is taken whole is its pull
+  pub pull_taken : (law : PullLaw) (n mass : ℕ) (from : Site) (p : Pull) → mass ≡ mass_of m (tree_under s) → from ≡ m.site n
+      → is_whole law down key from to ≡ true → p ≡ term law mass from to → p ≡ pull_from law m n down key (tree_under s)
+  pull_taken law n mass from p mass_is f taken q =
       let child : ℕ → Tree = child_under cell in
-      let whole : is_whole law down key (m.site n) (centre m (tree_under s)) ≡ true = not_true _
-      (sym (opened_is law (m.site n)) ∙ ap (λ y. is_opened law y own) (sym f) ∙ taken) in
       let P : Tree → Type 0 = λ t. is_whole law down key (m.site n) (centre m t) ≡ true
       → pull_from law m n down key t ≡ term law (mass_of m t) (m.site n) (centre m t) in
-      q ∙ ap (λ y. term law own.mass y own.at) f ∙ ap (λ (w : WalkNode). term law w.mass (m.site n) w.at) is
-      ∙ sym (subst P (sym at.tree) (pull-whole law m n down key (child 0) (child 1) (child 2) (child 3) (child 4) (child 5) (child 6) (child 7)) whole)
+      q ∙ ap (λ y. term law mass y to) f ∙ ap (λ y. term law y (m.site n) to) mass_is ∙ ap (term law (mass_of m (tree_under s)) (m.site n)) to_is
+      ∙ sym (subst P (sym at.tree) (pull-whole law m n down key (child 0) (child 1) (child 2) (child 3) (child 4) (child 5) (child 6) (child 7))
+      (whole_is law n from true f taken))
 
   -- the pull of one that is opened is the sum of its children's
-  pub pull_opened : (law : PullLaw) (n k : ℕ) (from : Site) (sum : Pull) → from ≡ m.site n → is_opened law from own ≡ true → k ≡ 8
+  pub pull_opened : (law : PullLaw) (n k : ℕ) (from : Site) (sum : Pull) → from ≡ m.site n → is_whole law down key from to ≡ false → k ≡ 8
       → sum ≡ pull_upto (child_pull law m n down key (child_under cell)) k → sum ≡ pull_from law m n down key (tree_under s)
   pull_opened law n k from sum f opened all added =
       let child : ℕ → Tree = child_under cell in
-      let not_whole : is_whole law down key (m.site n) (centre m (tree_under s)) ≡ false = not_false _
-      (sym (opened_is law (m.site n)) ∙ ap (λ y. is_opened law y own) (sym f) ∙ opened) in
       let P : Tree → Type 0 = λ t. is_whole law down key (m.site n) (centre m t) ≡ false
       → pull_from law m n down key t ≡ pull_upto (child_pull law m n down key child) 8 in
       added ∙ ap (pull_upto (child_pull law m n down key child)) all
-      ∙ sym (subst P (sym at.tree) (pull-opened law m n down key (child 0) (child 1) (child 2) (child 3) (child 4) (child 5) (child 6) (child 7)) not_whole)
+      ∙ sym (subst P (sym at.tree) (pull-opened law m n down key (child 0) (child 1) (child 2) (child 3) (child 4) (child 5) (child 6) (child 7))
+      (whole_is law n from false f opened))
 
 -- what the sum of one more owes
 pub record Fits (sum part : Pull) : Type 0 where
@@ -171,20 +113,20 @@ pub record Fits (sum part : Pull) : Type 0 where
   pub other : IsSmall (2 ^ 120) (2 ^ 32) part
   pub few : sum.met + part.met < 2 ^ 32
 
-module _ {m : Matter} {most down key : ℕ} {s cell child : Spot} {k : ℕ} (at : IsCellAt s cell) (cube : IsTreeOfCube m most down key (tree_under s))
+module _ {m : Matter} {most down : ℕ} {s cell child : Spot} {k : ℕ} (at : IsCellAt s cell) (cube : IsTreeOfCube m most down (tree_under s))
     (is : IsChildOf cell k child) (small : k < 8) where
   -- the pull of a child
-  pub child_part : (law : PullLaw) (n j : ℕ) (part : Pull) → j ≡ k → part ≡ pull_from law m n (down - 1) (8 * key + j) (tree_under child)
+  pub child_part : (law : PullLaw) (n key j : ℕ) (part : Pull) → j ≡ k → part ≡ pull_from law m n (down - 1) (8 * key + j) (tree_under child)
       → part ≡ child_pull law m n down key (child_under cell) k
-  child_part law n j part same e =
+  child_part law n key j part same e =
       e ∙ ap (λ i. pull_from law m n (down - 1) (8 * key + i) (tree_under child)) same ∙ ap (pull_from law m n (down - 1) (8 * key + k)) is.tree
 
   -- it fits beside the sum so far
-  pub parts_fit : (law : PullLaw) (n : ℕ) (sum part : Pull) → IsPullLaw law → StandsApart m most n
+  pub parts_fit : (law : PullLaw) (n key : ℕ) (sum part : Pull) → IsPullLaw law → StandsApart m most n
       → sum ≡ pull_upto (child_pull law m n down key (child_under cell)) k
       → part ≡ child_pull law m n down key (child_under cell) k → Fits sum part
   unfolding Stands
-  parts_fit law n sum part rule apart sum_is part_is =
+  parts_fit law n key sum part rule apart sum_is part_is =
       let child_of : ℕ → Tree = child_under cell in
       let pulls : ℕ → Pull = child_pull law m n down key child_of in
       let stands : Stands most down (cell_of child_of) = subst (Stands most down) at.tree cube.stands in

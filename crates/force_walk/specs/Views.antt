@@ -5,7 +5,7 @@ use Rattle.bh_model.specs.Moments.{Matter}
 use Rattle.bh_model.specs.Pulls.{IsPullLaw}
 use Rattle.mass_moments.specs.Kept.{matter_of}
 use Rattle.scene_file.specs.Bodies.{AreBodies}
-use Rattle.force_walk.specs.Flat.{AreLeast}
+use Rattle.force_walk.specs.Least.{AreLeast}
 use Rattle.force_walk.specs.declared.view.View.{View}
 
 -- the masses and the points of the bodies

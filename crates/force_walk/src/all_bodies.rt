@@ -2,7 +2,7 @@
 
 ghost use Rattle.std.specs.Prelude.{◌≡◌, ◌-◌, ◌<◌, ◌^◌, ℕ, All, Any, Contains, IfOk, length};
 ghost use Rattle.bh_model.specs.Pulls.{IsPullLaw};
-ghost use Rattle.force_walk.specs.Flat.{AreLeast, IsLaid};
+ghost use Rattle.force_walk.specs.Flat.{IsLaid};
 ghost use Rattle.force_walk.specs.Placed.{IsPlaced};
 ghost use Rattle.force_walk.specs.Walks.{IsPullAmong, pulls};
 ghost use Rattle.mass_moments.specs.Kept.{HaveMatter, matter_of};
@@ -10,8 +10,8 @@ ghost use Rattle.octree.specs.Stored.{IsOctreeOf, tree_of};
 ghost use Rattle.scene_file.specs.Bodies.{sites_of};
 
 use crate::lay::flat_table;
-use crate::least::{SIDES, least_distances};
-use crate::node::WalkNode;
+use crate::least::least_distances;
+use crate::node::FlatTable;
 use crate::walk::walk;
 use bh_model::{Law, Pull};
 use mass_moments::Moments;
@@ -39,37 +39,30 @@ pub fn pulls<R>(
     ensures value { IfOk result (λ list. list.items ≡ pulls law.now (matter_of bodies.now) (length bodies.now) (tree_of tree.now)) }
     ensures small { IfOk result (λ list. All (IsPullAmong (length bodies.now)) list.items) }
 {
-    let nodes = flat_table(alloc, tree, moments, bodies)?;
-    let least = least_distances(law);
+    let table = flat_table(alloc, tree, moments, bodies, &least_distances(law))?;
     let Ok(mut list) = vec![in alloc; Pull::none(); bodies.len() as usize] else {
         return Err(OutOfMemory);
     };
     for zone in zones {
-        place_zone(&nodes, &least, law, bodies, zone, &mut list);
+        place_zone(&table, law, bodies, zone, &mut list);
     }
     Ok(list)
 }
 
 /// Puts the pulls on the bodies of a zone at their numbers.
-fn place_zone(
-    nodes: &[WalkNode],
-    least: &[u64; SIDES],
-    law: &Law,
-    bodies: &Bodies,
-    zone: &[u32],
-    list: &mut [Pull],
-)
+fn place_zone(table: &FlatTable, law: &Law, bodies: &Bodies, zone: &[u32], list: &mut [Pull])
     requires rule { IsPullLaw law.now }
-    requires laid { All IsLaid nodes.now }
-    requires few { length nodes.now < 2 ^ 32 - 1 }
-    requires least { AreLeast law.now least.now }
+    requires laid { All IsLaid table.now.nodes.items }
+    requires few { length table.now.nodes.items < 2 ^ 32 - 1 }
+    requires places { length table.now.places.items ≡ length bodies.now }
     requires inside { All (λ n. n < length bodies.now) zone.now }
     requires long { length list.old ≡ length bodies.now }
-    ensures told { All (λ n. IsPlaced law.now (matter_of bodies.now) nodes.now list.new n) zone.now }
-    ensures kept { (n : ℕ) → IsPlaced law.now (matter_of bodies.now) nodes.now list.old n → IsPlaced law.now (matter_of bodies.now) nodes.now list.new n }
+    ensures told { All (λ n. IsPlaced law.now (matter_of bodies.now) table.now.nodes.items table.now.places.items list.new n) zone.now }
+    ensures kept { (n : ℕ) → IsPlaced law.now (matter_of bodies.now) table.now.nodes.items table.now.places.items list.old n → IsPlaced law.now (matter_of bodies.now) table.now.nodes.items table.now.places.items list.new n }
 {
     for n in zone {
         let body = bodies.get(*n);
-        list[*n as usize] = walk(nodes, least, law, body.at);
+        let place = table.places[*n as usize];
+        list[*n as usize] = walk(&table.nodes, law, body.at, place as usize);
     }
 }

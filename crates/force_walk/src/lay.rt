@@ -1,14 +1,15 @@
 //! The flat table is laid.
 
-ghost use Rattle.std.specs.Prelude.{◌≡◌, ◌<◌, ◌-◌, ◌^◌, ◌∷◌, ◌++◌, [], IfOk, OnOk, length, slice_index_or, slice_set};
+ghost use Rattle.std.specs.Prelude.{◌≡◌, ◌+◌, ◌<◌, ◌-◌, ◌^◌, ◌∷◌, ◌++◌, [], ℕ, IfOk, List, OnOk, length, slice_index, slice_index_or, slice_set};
 ghost use Rattle.force_walk.specs.Cubes.{IsTreeOfCube};
-ghost use Rattle.force_walk.specs.Flat.{body_node, flat, kept_node, no_node};
+ghost use Rattle.force_walk.specs.Flat.{AreFound, body_node, flat, kept_node, no_node, owners};
 ghost use Rattle.mass_moments.specs.Kept.{HaveMatter, matter_of, moment_at};
 ghost use Rattle.octree.specs.Stored.{IsOctreeOf, tree_of};
 ghost use Rattle.octree.specs.Spot.{tree_under};
 ghost use Rattle.scene_file.specs.Bodies.{sites_of};
 
-use crate::node::WalkNode;
+use crate::least::SIDES;
+use crate::node::{FlatTable, WalkNode};
 use mass_moments::Moments;
 use octant_code::OutOfMemory;
 use octree::{CellNo, Octree, Subtree, Top};
@@ -16,6 +17,7 @@ use scene_file::Bodies;
 use std::alloc::Global;
 
 /// Appends a node.
+#[inline]
 fn push(nodes: &mut Vec<WalkNode>, node: WalkNode) -> Result<(), OutOfMemory>
     ensures { OnOk result (nodes.new.items ≡ nodes.old.items ++ node ∷ []) }
 {
@@ -26,7 +28,7 @@ fn push(nodes: &mut Vec<WalkNode>, node: WalkNode) -> Result<(), OutOfMemory>
 }
 
 /// The node of a body.
-pub fn node_of_body(bodies: &Bodies, n: u32) -> WalkNode
+fn node_of_body(bodies: &Bodies, n: u32) -> WalkNode
     requires { n < length bodies.now }
     ensures { result ≡ body_node (matter_of bodies.now) n }
 {
@@ -34,24 +36,22 @@ pub fn node_of_body(bodies: &Bodies, n: u32) -> WalkNode
     WalkNode {
         at: body.at,
         skip: 1,
+        least: 1,
         mass: u64::from(body.mass),
-        key: 0,
-        down: 0,
     }
 }
 
 /// The node of a cell below which nothing is laid yet.
-pub fn node_of_cell(moments: &Moments, c: CellNo, down: u32, key: u64) -> WalkNode
+fn node_of_cell(moments: &Moments, c: CellNo, least: u64) -> WalkNode
     requires inside { c.0 < length moments.now }
     requires massive { 0 < (moment_at moments.now c.0).mass }
-    ensures { result ≡ kept_node moments.now c.0 down key 1 }
+    ensures { result ≡ kept_node moments.now c.0 least 1 }
 {
     WalkNode {
         at: moments.centre(c),
         skip: 1,
+        least,
         mass: moments.of(c).mass,
-        key,
-        down,
     }
 }
 
@@ -65,29 +65,36 @@ fn close(nodes: &mut Vec<WalkNode>, at: usize)
     nodes[at].skip = skip;
 }
 
-/// Appends the nodes of a subtree, whose cube has side `2^down` and a key.
+/// Appends the nodes of a subtree, whose cube has side `2^down`, and puts the places of its bodies' nodes at
+/// their numbers.
 #[tactic(auto, using(octree::proofs::Laws::child_height))]
 fn lay(
     at: &Subtree,
     moments: &Moments,
     bodies: &Bodies,
+    least: &[u64; SIDES],
     down: u32,
-    key: u64,
     nodes: &mut Vec<WalkNode>,
+    places: &mut [u32],
 ) -> Result<(), OutOfMemory>
-    requires cube { IsTreeOfCube (matter_of bodies.now) (length bodies.now) down key (tree_under at.now) }
+    requires cube { IsTreeOfCube (matter_of bodies.now) (length bodies.now) down (tree_under at.now) }
     requires moments { HaveMatter at.now.octree (matter_of bodies.now) moments.now }
-    ensures { OnOk result (nodes.new.items ≡ nodes.old.items ++ flat (matter_of bodies.now) down key (tree_under at.now)) }
+    requires long { length places.old ≡ length bodies.now }
+    requires few { length nodes.old.items + length (flat (matter_of bodies.now) least.now down (tree_under at.now)) < 2 ^ 32 }
+    ensures nodes { OnOk result (nodes.new.items ≡ nodes.old.items ++ flat (matter_of bodies.now) least.now down (tree_under at.now)) }
+    ensures places { OnOk result ((before : List ℕ) → length before ≡ length nodes.old.items → AreFound before places.old → AreFound (before ++ owners (tree_under at.now)) places.new) }
 {
     match at.top() {
         Top::Nothing => Ok(()),
-        Top::Body(n) => push(nodes, node_of_body(bodies, n)),
+        Top::Body(n) => {
+            places[n as usize] = nodes.len() as u32;
+            push(nodes, node_of_body(bodies, n))
+        }
         Top::Cell(cell) => {
             let own = nodes.len();
-            push(nodes, node_of_cell(moments, cell.number(), down, key))?;
+            push(nodes, node_of_cell(moments, cell.number(), least[down as usize]))?;
             for k in 0..8u32 {
-                let child_key = 8 * key + u64::from(k);
-                lay(&cell.child(k), moments, bodies, down - 1, child_key, nodes)?;
+                lay(&cell.child(k), moments, bodies, least, down - 1, nodes, places)?;
             }
             close(nodes, own);
             Ok(())
@@ -95,19 +102,27 @@ fn lay(
     }
 }
 
-/// The flat table of the canonical octree of all bodies.
+/// The flat table of the canonical octree of all bodies. Room for all nodes is taken at once.
 pub fn flat_table(
     alloc: Global,
     tree: &Octree,
     moments: &Moments,
     bodies: &Bodies,
-) -> Result<Vec<WalkNode>, OutOfMemory>
+    least: &[u64; SIDES],
+) -> Result<FlatTable, OutOfMemory>
     requires octree { IsOctreeOf (sites_of bodies.now) tree.now }
     requires moments { HaveMatter tree.now (matter_of bodies.now) moments.now }
-    ensures { IfOk result (λ nodes. nodes.items ≡ flat (matter_of bodies.now) 21 1 (tree_of tree.now)) }
+    ensures nodes { IfOk result (λ table. table.nodes.items ≡ flat (matter_of bodies.now) least.now 21 (tree_of tree.now)) }
+    ensures long { IfOk result (λ table. length table.places.items ≡ length bodies.now) }
+    ensures places { IfOk result (λ table. AreFound (owners (tree_of tree.now)) table.places.items) }
 {
-    let _rule = bodies.len();
-    let mut nodes = Vec::new(alloc);
-    lay(&tree.whole(), moments, bodies, 21, 1, &mut nodes)?;
-    Ok(nodes)
+    let count = bodies.len() as usize;
+    let Ok(mut nodes) = Vec::with_capacity(alloc, tree.used() as usize + count) else {
+        return Err(OutOfMemory);
+    };
+    let Ok(mut places) = vec![in alloc; 0u32; count] else {
+        return Err(OutOfMemory);
+    };
+    lay(&tree.whole(), moments, bodies, least, 21, &mut nodes, &mut places)?;
+    Ok(FlatTable { nodes, places })
 }

@@ -2,11 +2,11 @@
 
 ghost use Rattle.std.specs.Prelude.{◌≤◌};
 ghost use Rattle.bh_model.specs.Pulls.{IsPullLaw};
-ghost use Rattle.force_walk.specs.Flat.{AreLeast, IsLeast};
+ghost use Rattle.force_walk.specs.Least.{AreLeast, IsLeast};
 
 use bh_model::Law;
 
-/// How many sides cubes and bodies have: `2^0` to `2^21`.
+/// How many sides cubes have: `2^0` to `2^21`.
 pub const SIDES: usize = 22;
 
 /// More than any squared distance.
@@ -26,14 +26,11 @@ pub fn least_distances(law: &Law) -> [u64; SIDES]
 }
 
 /// The least squared distance at which a cube of side `2^down` is far, at most 2^44, which is more
-/// than any; and 1, the least from one body to another, where `down` is 0.
+/// than any.
 fn least_distance(law: &Law, down: u32) -> u64
     requires { down ≤ 21 }
     ensures { IsLeast law.now down result }
 {
-    if down == 0 {
-        return 1;
-    }
     let num = u128::from(law.theta_num);
     let den = u128::from(law.theta_den);
     if num == 0 {

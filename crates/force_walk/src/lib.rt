@@ -6,9 +6,11 @@ mod lay;
 mod least;
 mod node;
 mod one_body;
+mod short_pull;
 mod term;
 mod view;
 mod walk;
+mod walk_sum;
 
 pub use all_bodies::pulls;
 pub use bh_model::{Law, Pull};

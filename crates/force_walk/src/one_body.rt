@@ -1,10 +1,9 @@
 //! The pull on one body.
 
-ghost use Rattle.std.specs.Prelude.{◌≡◌, ◌+◌, ◌<◌, length};
+ghost use Rattle.std.specs.Prelude.{◌≡◌, ◌+◌, ◌^◌, ◌<◌, ◌≤◌, length};
 ghost use Rattle.octant_code.specs.Space.{squared_distance};
-ghost use Rattle.bh_model.specs.Pulls.{pull, pull_from, term};
-ghost use Rattle.force_walk.specs.Cubes.{IsTreeOfCube};
-ghost use Rattle.force_walk.specs.Flat.{IsLaid, is_opened};
+ghost use Rattle.bh_model.specs.Pulls.{is_whole, pull, pull_from, term};
+ghost use Rattle.force_walk.specs.Cubes.{HasRoom, IsTreeOfCube};
 ghost use Rattle.force_walk.specs.Views.{IsView, seen};
 ghost use Rattle.force_walk.specs.Walks.{IsPullAmong};
 ghost use Rattle.mass_moments.specs.Kept.{HaveMatter, matter_of};
@@ -12,15 +11,12 @@ ghost use Rattle.octree.specs.Stored.{IsOctreeOf, tree_of};
 ghost use Rattle.octree.specs.Spot.{tree_under};
 ghost use Rattle.scene_file.specs.Bodies.{sites_of};
 
-use crate::lay::{node_of_body, node_of_cell};
 use crate::least::least_distances;
-use crate::node::WalkNode;
 use crate::term::term_at;
 use crate::view::View;
-use crate::walk::is_opened;
 use bh_model::{Law, Pull};
 use mass_moments::Moments;
-use octant_code::{key_at, squared_distance};
+use octant_code::{Point, key_at, squared_distance};
 use octree::{Octree, Subtree, Top};
 use scene_file::Bodies;
 
@@ -52,7 +48,8 @@ pub fn pull(tree: &Octree, moments: &Moments, bodies: &Bodies, n: u32, law: &Law
 #[tactic(auto, using(octree::proofs::Laws::child_height))]
 fn pull_below(view: &View, at: &Subtree, down: u32, key: u64) -> Pull
     requires view { IsView view.now }
-    requires cube { IsTreeOfCube (seen view.now) (length view.now.bodies.now) down key (tree_under at.now) }
+    requires cube { IsTreeOfCube (seen view.now) (length view.now.bodies.now) down (tree_under at.now) }
+    requires room { HasRoom down key }
     requires moments { HaveMatter at.now.octree (seen view.now) view.now.moments.now }
     ensures { result ≡ pull_from view.now.law.now (seen view.now) view.now.n down key (tree_under at.now) }
 {
@@ -62,13 +59,15 @@ fn pull_below(view: &View, at: &Subtree, down: u32, key: u64) -> Pull
             if other == view.n {
                 Pull::none()
             } else {
-                term_of(view, &node_of_body(view.bodies, other))
+                let body = view.bodies.get(other);
+                term_to(view, u64::from(body.mass), body.at)
             }
         }
         Top::Cell(cell) => {
-            let node = node_of_cell(view.moments, cell.number(), down, key);
-            if !opens(view, &node) {
-                return term_of(view, &node);
+            let number = cell.number();
+            let centre = view.moments.centre(number);
+            if takes_whole(view, down, key, centre) {
+                return term_to(view, view.moments.of(number).mass, centre);
             }
             let mut sum = Pull::none();
             for k in 0..8u32 {
@@ -80,23 +79,23 @@ fn pull_below(view: &View, at: &Subtree, down: u32, key: u64) -> Pull
     }
 }
 
-/// Whether the body goes on below a node.
-fn opens(view: &View, node: &WalkNode) -> bool
+/// Whether the body takes a cell whole, whose cube has side `2^down` and a key, by its centre of mass.
+fn takes_whole(view: &View, down: u32, key: u64, centre: Point) -> bool
     requires view { IsView view.now }
-    requires laid { IsLaid node.now }
-    ensures { result ≡ is_opened view.now.law.now view.now.from node.now }
+    requires shallow { down ≤ 21 }
+    ensures { result ≡ is_whole view.now.law.now down key view.now.from centre }
 {
-    let d2 = squared_distance(view.from, node.at);
-    is_opened(node, view.least, view.law, view.from, view.own, d2)
+    let outside = view.own >> (3 * down) != key;
+    outside && squared_distance(view.from, centre) >= view.least[down as usize]
 }
 
-/// The term of a node.
-fn term_of(view: &View, node: &WalkNode) -> Pull
+/// The term of a mass at a point.
+fn term_to(view: &View, mass: u64, to: Point) -> Pull
     requires view { IsView view.now }
-    requires laid { IsLaid node.now }
-    requires apart { 0 < squared_distance view.now.from node.now.at + view.now.law.now.eps2 }
-    ensures { result ≡ term view.now.law.now node.now.mass view.now.from node.now.at }
+    requires light { mass < 2 ^ 40 }
+    requires apart { 0 < squared_distance view.now.from to + view.now.law.now.eps2 }
+    ensures { result ≡ term view.now.law.now mass view.now.from to }
 {
-    let d2 = squared_distance(view.from, node.at);
-    term_at(view.law, node.mass, view.from, node.at, d2)
+    let d2 = squared_distance(view.from, to);
+    term_at(view.law, mass, view.from, to, d2)
 }

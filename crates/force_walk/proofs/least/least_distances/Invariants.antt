@@ -1,5 +1,5 @@
 use Rattle.std.proofs.Common.{◌<◌, ◌≡◌, ℕ, length, slice_index}
-use Rattle.force_walk.specs.Flat.{IsLeast}
+use Rattle.force_walk.specs.Least.{IsLeast}
 use Rattle.force_walk.proofs.least.least_distances.Given as goal
 
 abbrev pub invariant-loop-down : goal.invariant-loop-down

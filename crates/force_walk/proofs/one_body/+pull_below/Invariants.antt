@@ -3,7 +3,7 @@ use Rattle.bh_model.proofs.PullSums.{pull_upto}
 use Rattle.bh_model.specs.Trees.{height}
 use Rattle.octree.specs.Spot.{child_under, tree_under}
 use Rattle.force_walk.specs.Views.{seen}
-use Rattle.force_walk.proofs.SubtreePulls.{child_pull}
+use Rattle.force_walk.proofs.Flats.{child_pull}
 use Rattle.force_walk.proofs.one_body.+pull_below.Given as goal
 
 abbrev pub decreases-pull_below : goal.decreases-pull_below

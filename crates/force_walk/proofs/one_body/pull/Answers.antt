@@ -10,7 +10,7 @@ use Rattle.force_walk.proofs.one_body.pull.Goals as goal
 
 pub pull_below-requires-clause-cube : goal.pull_below-requires-clause-cube
 pull_below-requires-clause-cube c =
-    subst (λ (t : Tree). IsTreeOfCube (matter_of c.args.bodies.now) (length c.args.bodies.now) 21 1 t) (sym c.whole.ensures.tree)
+    subst (λ (t : Tree). IsTreeOfCube (matter_of c.args.bodies.now) (length c.args.bodies.now) 21 t) (sym c.whole.ensures.tree)
     (scene_cube c.args.bodies.now c.args.tree.now (record { rule = c.len-rule.ensures.rule; octree = c.requires.octree }))
 
 pub pull_below-requires-clause-moments : goal.pull_below-requires-clause-moments

@@ -1,5 +1,6 @@
-use Rattle.octant_code.proofs.Roots.{root-tested}
+use Rattle.std.proofs.Common.{refl}
+use Rattle.force_walk.proofs.Quotients.{tested_root}
 use Rattle.force_walk.proofs.term.root_of.Goals as goal
 
-pub returns-then-n-guess-clause-value : goal.returns-then-n-guess-clause-value
-returns-then-n-guess-clause-value c = root-tested c.args.n c.args.guess c.if-guess-n.true c.if-n-guess.true
+pub returns-then-is_root-clause-value : goal.returns-then-is_root-clause-value
+returns-then-is_root-clause-value c = tested_root _ _ (c.if-is_root.ensures refl)

@@ -1,5 +1,6 @@
 use Rattle.std.proofs.Common.{◌≡◌, ◌*◌, ◌-◌, ◌^◌, ℕ, ap, ◌∙◌, arith}
 use Rattle.std.proofs.lemmas.Nat.{mul-le}
+use Rattle.bh_model.specs.Pulls.{PullLaw}
 use Rattle.force_walk.proofs.term.whole_of.Goals as goal
 
 -- both factors are shifted
@@ -7,7 +8,9 @@ shifted : (g mass : ℕ) → g * 256 * (mass * 16777216) ≡ g * mass * 2 ^ 32
 shifted g mass = omega arith
 
 pub returns-clause-value : goal.returns-clause-value
-returns-clause-value c = ap (λ n. n * c.from-2.result) c.from.ensures ∙ ap (λ n. c.args.g * 256 * n) c.from-2.ensures ∙ shifted c.args.g c.args.mass
+returns-clause-value c =
+    ap (λ n. n * c.from-2.result) c.from.ensures ∙ ap (λ n. c.law.inside.g * 256 * n) c.from-2.ensures ∙ shifted c.law.inside.g c.args.mass
+    ∙ ap (λ (l : PullLaw). l.g * c.args.mass * 2 ^ 32) c.law.view_is
 
 pub returns-clause-fits : goal.returns-clause-fits
 returns-clause-fits c =

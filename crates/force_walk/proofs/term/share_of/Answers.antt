@@ -1,0 +1,50 @@
+use Rattle.std.proofs.Common.{ℕ, ◌≡◌, ◌*◌, ◌/◌, ◌^◌, ◌<◌, ◌≤◌, pos, neg_ℤ, arith, inl, inr, refl, subst, sym, ◌∙◌}
+use Rattle.std.proofs.lemmas.Bool.{cases_lt}
+use Rattle.std.proofs.lemmas.Int.{ints}
+use Rattle.std.proofs.lemmas.Nat.{mul-lt}
+use Rattle.bh_model.specs.Pulls.{IsWithin}
+use Rattle.force_walk.proofs.Quotients.{component-shared-down, component-shared-up, short_stays}
+use Rattle.force_walk.proofs.term.share_of.Goals.{After-share}
+use Rattle.force_walk.proofs.term.share_of.Goals as goal
+
+-- the share is a part of the product, up or down
+share_up : (c : After-share) → c.args.from ≤ c.args.to → c.share.result ≡ pos (c.args.rate * c.from-size.result / 2 ^ 32)
+share_up c up = c.share.ensures.up (omega (arith, ints, c.from.ensures, c.from-2.ensures))
+
+share_down : (c : After-share) → c.args.to < c.args.from → c.share.result ≡ neg_ℤ (pos (c.args.rate * c.from-size.result / 2 ^ 32))
+share_down c down = c.share.ensures.down (omega (arith, ints, c.from.ensures, c.from-2.ensures))
+
+within_up : (q : ℕ) → q < 2 ^ 31 → IsWithin (2 ^ 31) (pos q)
+within_up q h = record { low = omega (arith, ints); high = omega (arith, ints) }
+
+within_down : (q : ℕ) → q < 2 ^ 31 → IsWithin (2 ^ 31) (neg_ℤ (pos q))
+within_down q h = record { low = omega (arith, ints); high = omega (arith, ints) }
+
+small : (c : After-share) → IsWithin (2 ^ 31) c.share.result
+small c =
+    let whole : c.args.rate * c.from-size.result < 2 ^ 63 =
+    omega (arith, mul-lt c.args.rate c.from-size.result (2 ^ 42) (2 ^ 21) c.requires.rate_fits (omega (arith, c.from-size.ensures, c.abs_diff.ensures))) in
+    let part : c.args.rate * c.from-size.result / 2 ^ 32 < 2 ^ 31 = omega arith in
+    elim (cases_lt c.args.to c.args.from) [
+      | inl down ↦ subst (IsWithin (2 ^ 31)) (sym (share_down c down)) (within_down _ part)
+      | inr up ↦ subst (IsWithin (2 ^ 31)) (sym (share_up c up)) (within_up _ part)
+    ]
+
+pub returns-then-is_sure-clause-value : goal.returns-then-is_sure-clause-value
+returns-then-is_sure-clause-value c =
+    λ scale divisor rate.
+        let sure = c.if-is_sure.ensures.sure refl in
+        short_stays _ (small c)
+        ∙ (elim (cases_lt c.args.to c.args.from) [
+          | inl down ↦
+              share_down c down
+              ∙ component-shared-down scale c.args.from c.args.to divisor c.args.rate c.from-size.result (2 ^ 32) 1 (omega arith)
+              (c.from-size.ensures ∙ c.abs_diff.ensures) rate (omega (arith, sure)) (omega arith)
+          | inr up ↦
+              share_up c up
+              ∙ component-shared-up scale c.args.from c.args.to divisor c.args.rate c.from-size.result (2 ^ 32) 1 up (c.from-size.ensures ∙ c.abs_diff.ensures)
+              rate (omega (arith, sure)) (omega arith)
+        ])
+
+pub returns-then-is_sure-clause-small : goal.returns-then-is_sure-clause-small
+returns-then-is_sure-clause-small c = subst (IsWithin (2 ^ 31)) (sym (short_stays _ (small c))) (small c)
