@@ -3,7 +3,6 @@ use Rattle.std.specs.Prelude.{ℕ, ◌+◌, ◌*◌, ◌^◌, ◌<◌, ◌≤◌
 use Rattle.bh_model.specs.declared.pull.Pull.{Pull}
 use Rattle.bh_model.specs.Pulls.{IsSmall, add_pull}
 use Rattle.force_walk.specs.declared.short_pull.ShortPull.{ShortPull}
-use Rattle.force_walk.specs.declared.walk_sum.WalkSum.{WalkSum}
 
 -- the pull that a short one is
 abbrev pub pull_of : ShortPull → Pull
@@ -15,12 +14,12 @@ pub record IsRate (scale divisor unit slack rate : ℕ) : Type 0 where
   pub low : rate * divisor ≤ scale * unit
   pub high : scale * unit < rate * divisor + slack * divisor
 
--- the pull that the sum of a walk is
-abbrev pub sum_of : WalkSum → Pull
-sum_of s = add_pull s.wide (pull_of s.short)
+-- the sum of a walk, of which some terms come short and the others wide
+abbrev pub sum_of : ShortPull → Pull → Pull
+sum_of short wide = add_pull wide (pull_of short)
 
 -- a sum of at most so many terms, none of which is greater than its word holds
-pub record IsSumOf (terms : ℕ) (s : WalkSum) : Type 0 where
-  pub short : IsSmall (terms * 2 ^ 31) terms (pull_of s.short)
-  pub wide : IsSmall (terms * 2 ^ 80) terms s.wide
-  pub few : s.wide.met + s.short.met ≤ terms
+pub record IsSumOf (terms : ℕ) (short : ShortPull) (wide : Pull) : Type 0 where
+  pub short_small : IsSmall (terms * 2 ^ 31) terms (pull_of short)
+  pub wide_small : IsSmall (terms * 2 ^ 80) terms wide
+  pub few : wide.met + short.met ≤ terms

@@ -10,7 +10,6 @@ mod short_pull;
 mod term;
 mod view;
 mod walk;
-mod walk_sum;
 
 pub use all_bodies::pulls;
 pub use bh_model::{Law, Pull};
