@@ -133,7 +133,7 @@ fn guess_of(law: &Law, mass: u64, r2: u64) -> Guess
     let bits = f64::from_bits(r2 + ONES);
     let near = (bits - HALF_BELOW).sqrt() + HALF_BELOW;
     let scale = float(mass) * (float(law.g) * 4294967296.0);
-    let parts = scale / (bits - ONES_FLOAT) / (near - ONES_FLOAT);
+    let parts = scale / ((bits - ONES_FLOAT) * (near - ONES_FLOAT));
     let held = parts + 8796093022208.0;
     Guess {
         root: bits_below(near, 9007199254740992.0) % 0x80_0000,
