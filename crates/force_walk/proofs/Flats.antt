@@ -54,9 +54,18 @@ unfolding flat owners
 owners_long m least down Empty = refl
 owners_long m least down (Body n) = refl
 owners_long m least down (Cell a b c d e f g h) =
-    simp (length-append {A = WalkNode}, length-append {A = ℕ}, owners_long m least (down - 1) a, owners_long m least (down - 1) b,
-    owners_long m least (down - 1) c, owners_long m least (down - 1) d, owners_long m least (down - 1) e, owners_long m least (down - 1) f,
-    owners_long m least (down - 1) g, owners_long m least (down - 1) h) refl
+    simp (
+      length-append {A = WalkNode},
+      length-append {A = ℕ},
+      owners_long m least (down - 1) a,
+      owners_long m least (down - 1) b,
+      owners_long m least (down - 1) c,
+      owners_long m least (down - 1) d,
+      owners_long m least (down - 1) e,
+      owners_long m least (down - 1) f,
+      owners_long m least (down - 1) g,
+      owners_long m least (down - 1) h,
+    ) refl
 
 -- ---- what holds of each node of the table
 

@@ -102,10 +102,10 @@ still_found before more i n e = get_or_append_left before more 0 i (read_within 
 found_cell : (before places : List ℕ) → AreFound before places → AreFound (before ++ 0 ∷ []) places
 found_cell before places found =
     λ n i.
-        elim (in_append before (0 ∷ []) (suc n) i) [
-          | inl there ↦ still_found before (0 ∷ []) (slice_index places n) n (found n there)
-          | inr here ↦ elim here [ inl e ↦ absurd (omega (arith, e)) | inr none ↦ absurd none ]
-        ]
+    elim (in_append before (0 ∷ []) (suc n) i) [
+      | inl there ↦ still_found before (0 ∷ []) (slice_index places n) n (found n there)
+      | inr here ↦ elim here [ inl e ↦ absurd (omega (arith, e)) | inr none ↦ absurd none ]
+    ]
 
 found_body : (before places : List ℕ) (n at : ℕ) → n < length places → at ≡ length before → AreFound before places
     → AreFound (before ++ suc n ∷ []) (set places n at)
@@ -113,17 +113,17 @@ found_body before places n at within last found =
     let own : slice_index (before ++ suc n ∷ []) (slice_index (set places n at) n) ≡ suc n =
     ap (slice_index (before ++ suc n ∷ [])) (get_or-set_same places n at 0 within) ∙ get_or_push before (suc n) 0 at (sym last) in
     λ j i.
-        elim (cases_eq j n) [
-          | inl same ↦
-              subst (λ (b : ℕ). slice_index (before ++ suc n ∷ []) (slice_index (set places n at) b) ≡ suc b) (sym same) own
-          | inr other ↦
-              elim (in_append before (suc n ∷ []) (suc j) i) [
-                | inl there ↦
-                    ap (slice_index (before ++ suc n ∷ [])) (get_or-set_other places n j at 0 other)
-                    ∙ still_found before (suc n ∷ []) (slice_index places j) j (found j there)
-                | inr here ↦ elim here [ inl e ↦ absurd (other (omega (arith, e))) | inr none ↦ absurd none ]
-              ]
-        ]
+    elim (cases_eq j n) [
+      | inl same ↦
+          subst (λ (b : ℕ). slice_index (before ++ suc n ∷ []) (slice_index (set places n at) b) ≡ suc b) (sym same) own
+      | inr other ↦
+          elim (in_append before (suc n ∷ []) (suc j) i) [
+            | inl there ↦
+                ap (slice_index (before ++ suc n ∷ [])) (get_or-set_other places n j at 0 other)
+                ∙ still_found before (suc n ∷ []) (slice_index places j) j (found j there)
+            | inr here ↦ elim here [ inl e ↦ absurd (other (omega (arith, e))) | inr none ↦ absurd none ]
+          ]
+    ]
 
 pub found_one : {s : Spot} {n : ℕ} (before places : List ℕ) (at : ℕ) → IsBodyAt s n → n < length places → at ≡ length before → AreFound before places
     → AreFound (before ++ owners (tree_under s)) (set places n at)

@@ -45,10 +45,10 @@ pub short_added : (n : ℕ) (short next : ShortPull) (wide one : Pull) → IsSum
 short_added n short next wide one is e small = record {
   sum = ap (add_pull wide) e ∙ sym (add_assoc wide (pull_of short) one);
   small = record {
-        short_small = small_next (2 ^ 31) n _ _ _ e is.short_small small;
-        wide_small = small_more _ _ _ _ _ (omega arith) (omega arith) is.wide_small;
-        few = omega (arith, is.few, ap (λ (p : Pull). p.met) e, small.met);
-      };
+    short_small = small_next (2 ^ 31) n _ _ _ e is.short_small small;
+    wide_small = small_more _ _ _ _ _ (omega arith) (omega arith) is.wide_small;
+    few = omega (arith, is.few, ap (λ (p : Pull). p.met) e, small.met);
+  };
 }
 
 pub wide_added : (n : ℕ) (short : ShortPull) (wide more one : Pull) → IsSumOf n short wide → more ≡ add_pull wide one → IsSmall (2 ^ 80) 1 one
@@ -56,10 +56,10 @@ pub wide_added : (n : ℕ) (short : ShortPull) (wide more one : Pull) → IsSumO
 wide_added n short wide more one is e small = record {
   sum = ap (λ w. add_pull w (pull_of short)) e ∙ same_pull _ _ _ _ _ _ _ _ (omega (arith, ints)) (omega (arith, ints)) (omega (arith, ints)) (omega arith);
   small = record {
-        short_small = small_more _ _ _ _ _ (omega arith) (omega arith) is.short_small;
-        wide_small = small_next (2 ^ 80) n _ _ _ e is.wide_small small;
-        few = omega (arith, is.few, ap (λ (p : Pull). p.met) e, small.met);
-      };
+    short_small = small_more _ _ _ _ _ (omega arith) (omega arith) is.short_small;
+    wide_small = small_next (2 ^ 80) n _ _ _ e is.wide_small small;
+    few = omega (arith, is.few, ap (λ (p : Pull). p.met) e, small.met);
+  };
 }
 
 -- ---- walks
@@ -116,10 +116,10 @@ way_starts law from place nodes short wide e f = record {
   behind = omega arith;
   within = omega arith;
   small = record {
-        short_small = subst (λ (p : Pull). IsSmall 0 0 p) (sym e) (small_none 0 0);
-        wide_small = subst (λ (p : Pull). IsSmall 0 0 p) (sym f) (small_none 0 0);
-        few = omega (arith, ap (λ (p : Pull). p.met) e, ap (λ (p : Pull). p.met) f);
-      };
+    short_small = subst (λ (p : Pull). IsSmall 0 0 p) (sym e) (small_none 0 0);
+    wide_small = subst (λ (p : Pull). IsSmall 0 0 p) (sym f) (small_none 0 0);
+    few = omega (arith, ap (λ (p : Pull). p.met) e, ap (λ (p : Pull). p.met) f);
+  };
 }
 
 -- a node is opened
@@ -131,7 +131,7 @@ way_opens law from place nodes at short wide node way within e opened =
     record {
       whole =
           ap (add_pull (sum_of short wide))
-              (sym (ap (λ l. walked law from place at l 0) next ∙ walked_opened law from place at node (drop (at + 1) nodes) opened))
+          (sym (ap (λ l. walked law from place at l 0) next ∙ walked_opened law from place at node (drop (at + 1) nodes) opened))
           ∙ way.whole;
       terms = way.terms;
       behind = omega (arith, way.behind);

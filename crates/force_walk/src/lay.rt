@@ -92,9 +92,20 @@ fn lay(
         }
         Top::Cell(cell) => {
             let own = nodes.len();
-            push(nodes, node_of_cell(moments, cell.number(), least[down as usize]))?;
+            push(
+                nodes,
+                node_of_cell(moments, cell.number(), least[down as usize]),
+            )?;
             for k in 0..8u32 {
-                lay(&cell.child(k), moments, bodies, least, down - 1, nodes, places)?;
+                lay(
+                    &cell.child(k),
+                    moments,
+                    bodies,
+                    least,
+                    down - 1,
+                    nodes,
+                    places,
+                )?;
             }
             close(nodes, own);
             Ok(())
@@ -123,6 +134,14 @@ pub fn flat_table(
     let Ok(mut places) = vec![in alloc; 0u32; count] else {
         return Err(OutOfMemory);
     };
-    lay(&tree.whole(), moments, bodies, least, 21, &mut nodes, &mut places)?;
+    lay(
+        &tree.whole(),
+        moments,
+        bodies,
+        least,
+        21,
+        &mut nodes,
+        &mut places,
+    )?;
     Ok(FlatTable { nodes, places })
 }

@@ -183,7 +183,11 @@ fn root_of(n: u64, guess: u64) -> u64
     ensures value { result ≡ root n }
     ensures fits { result < 2 ^ 23 }
 {
-    if is_root(n, guess) { guess } else { slow_root(n) }
+    if is_root(n, guess) {
+        guess
+    } else {
+        slow_root(n)
+    }
 }
 
 /// Whether a number has a guess as its root.

@@ -111,7 +111,15 @@ fn put_over(
     };
     let used = part_two(table, pass, spare, points, x, n, cube);
     let top = word_of_cell(spare[0]);
-    store_locked(table, pass, spot.word, word_of_body(x), top, &spare[..used], &[n]);
+    store_locked(
+        table,
+        pass,
+        spot.word,
+        word_of_body(x),
+        top,
+        &spare[..used],
+        &[n],
+    );
     used
 }
 

@@ -36,8 +36,14 @@ cells_few o h =
 joined_counts : (g : ℕ → List ℕ) (f : ℕ → Tree) (n : ℕ) → ((k : ℕ) → k < n → length (g k) ≡ cell_count (f k)) → length (joined g n) ≡ counts f n
 joined_counts g f zero same = sym (counts_start f)
 joined_counts g f (suc n) same =
-    omega (arith, length-append (joined g n) (g n), joined_counts g f n (λ k l. same k (omega arith)), same n (omega arith), counts_next f (f n) n refl,
-    ap (counts f) (add-one n))
+    omega (
+      arith,
+      length-append (joined g n) (g n),
+      joined_counts g f n (λ k l. same k (omega arith)),
+      same n (omega arith),
+      counts_next f (f n) n refl,
+      ap (counts f) (add-one n),
+    )
 
 -- a word has as many cells as its tree
 count_of_tree : (at : ℕ → ℕ) (below w : ℕ) → WordIs w → length (cells_from at below w) ≡ cell_count (tree_from at below w)

@@ -44,8 +44,8 @@ loop-zone-preserved g c =
           elim (cases_lt j c.loop-zone.zone-index) [
             | inl before ↦
                 λ k e m.
-                    let n : ℕ = get_or (get_or c.args.zones.now j d).items k e in
-                    c.place_zone.ensures.kept n (subst (λ list. P list n) (sym c.deref_mut.ensures.value) (c.loop-zone.invariant.told j d before k e m))
+                let n : ℕ = get_or (get_or c.args.zones.now j d).items k e in
+                c.place_zone.ensures.kept n (subst (λ list. P list n) (sym c.deref_mut.ensures.value) (c.loop-zone.invariant.told j d before k e m))
             | inr last ↦
                 let here : j ≡ c.loop-zone.zone-index = omega arith in
                 let item : c.deref.result.now ≡ (get_or c.args.zones.now j d).items =

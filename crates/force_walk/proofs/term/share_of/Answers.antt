@@ -33,18 +33,18 @@ small c =
 pub returns-then-is_sure-clause-value : goal.returns-then-is_sure-clause-value
 returns-then-is_sure-clause-value c =
     λ scale divisor rate.
-        let sure = c.if-is_sure.ensures.sure refl in
-        short_stays _ (small c)
-        ∙ (elim (cases_lt c.args.to c.args.from) [
-          | inl down ↦
-              share_down c down
-              ∙ component-shared-down scale c.args.from c.args.to divisor c.args.rate c.from-size.result (2 ^ 32) 1 (omega arith)
-              (c.from-size.ensures ∙ c.abs_diff.ensures) rate (omega (arith, sure)) (omega arith)
-          | inr up ↦
-              share_up c up
-              ∙ component-shared-up scale c.args.from c.args.to divisor c.args.rate c.from-size.result (2 ^ 32) 1 up (c.from-size.ensures ∙ c.abs_diff.ensures)
-              rate (omega (arith, sure)) (omega arith)
-        ])
+    let sure = c.if-is_sure.ensures.sure refl in
+    short_stays _ (small c)
+    ∙ (elim (cases_lt c.args.to c.args.from) [
+      | inl down ↦
+          share_down c down
+          ∙ component-shared-down scale c.args.from c.args.to divisor c.args.rate c.from-size.result (2 ^ 32) 1 (omega arith)
+          (c.from-size.ensures ∙ c.abs_diff.ensures) rate (omega (arith, sure)) (omega arith)
+      | inr up ↦
+          share_up c up
+          ∙ component-shared-up scale c.args.from c.args.to divisor c.args.rate c.from-size.result (2 ^ 32) 1 up (c.from-size.ensures ∙ c.abs_diff.ensures)
+          rate (omega (arith, sure)) (omega arith)
+    ])
 
 pub returns-then-is_sure-clause-small : goal.returns-then-is_sure-clause-small
 returns-then-is_sure-clause-small c = subst (IsWithin (2 ^ 31)) (sym (short_stays _ (small c))) (small c)
