@@ -2,18 +2,19 @@
 //!
 //! Usage: frame_times NUM DEN ROUNDS < SCENE
 //!
-//! It reads a scene, makes its frame with the opening angle NUM / DEN so many times, and prints the
-//! least time of each phase in nanoseconds, and how many terms the pulls have. With other words it
-//! prints nothing.
+//! It reads a scene and makes its frame with the opening angle NUM / DEN so many times, on one worker,
+//! writes the tree's text each time to standard output, and tells on standard error the least time of
+//! each phase in nanoseconds, and how many terms the pulls have. The time of the pulls is that of a
+//! frame without its moments and its zones: laying the flat table and the sums are in it. With other
+//! words it tells nothing.
 #![tactic(auto)]
 
 ghost use Rattle.std.specs.Prelude.{◌≡◌, All, IfOk, length};
 ghost use Rattle.mass_moments.specs.Kept.{IsCost};
-ghost use Rattle.octree.specs.Stored.{IsOctreeOf};
-ghost use Rattle.scene_file.specs.Bodies.{sites_of};
 
 use bh_model::{Builder, Law, Plan};
-use bh_outside::{Input, StdSource, read_all};
+use bh_outside::{Input, Sink, StdSink, StdSource, read_all};
+use costzones::zones;
 use frame_core::Engine;
 use mass_moments::moments;
 use octant_code::OutOfMemory;
@@ -27,10 +28,44 @@ use std::time::Instant;
 /// The least times of the phases so far, in nanoseconds, and the terms of a frame.
 #[derive(Clone, Copy)]
 struct Times {
+    reading: u128,
     tree: u128,
+    counts: u128,
+    text: u128,
     moments: u128,
-    frame: u128,
+    zones: u128,
+    pulls: u128,
     met: u64,
+}
+
+impl Times {
+    /// More than any round takes.
+    fn longest() -> Times {
+        Times {
+            reading: u128::MAX,
+            tree: u128::MAX,
+            counts: u128::MAX,
+            text: u128::MAX,
+            moments: u128::MAX,
+            zones: u128::MAX,
+            pulls: u128::MAX,
+            met: 0,
+        }
+    }
+
+    /// The least of both, phase by phase.
+    fn least(self, other: Times) -> Times {
+        Times {
+            reading: self.reading.min(other.reading),
+            tree: self.tree.min(other.tree),
+            counts: self.counts.min(other.counts),
+            text: self.text.min(other.text),
+            moments: self.moments.min(other.moments),
+            zones: self.zones.min(other.zones),
+            pulls: self.pulls.min(other.pulls),
+            met: other.met,
+        }
+    }
 }
 
 /// A cost of 1 for each body.
@@ -44,65 +79,87 @@ fn costs_of(alloc: Global, bodies: &Bodies) -> Result<Vec<u32>, OutOfMemory>
     }
 }
 
-/// The octree of bodies.
-fn octree_of(alloc: Global, bodies: &Bodies) -> Result<Octree, OutOfMemory>
-    ensures { IfOk result (λ t. IsOctreeOf (sites_of bodies.now) t) }
-{
-    let points = bodies.points(alloc)?;
-    Octree::of_points(alloc, &points)
-}
-
-/// Times the moments of all cells.
-fn time_moments<R: Clock>(rt: &R, alloc: Global, bodies: &Bodies) -> anyhow::Result<u128> {
-    let costs = costs_of(alloc, bodies)?;
-    let tree = octree_of(alloc, bodies)?;
-    let start = Instant::now(rt)?;
-    let _made = moments(rt, alloc, &tree, bodies, &costs)?;
+/// The nanoseconds since a moment.
+fn since<R: Clock>(rt: &R, start: Instant) -> anyhow::Result<u128> {
     Ok(start.elapsed(rt)?.as_nanos())
 }
 
-/// Times the tree and the frame of a scene's bodies, and tells how many terms the pulls have.
+/// Times the phases up to the zones, each by itself.
+fn time_parts<R: Clock, K: Sink>(
+    rt: &R,
+    alloc: Global,
+    bodies: &Bodies,
+    sink: &mut K,
+) -> anyhow::Result<Times> {
+    let mut times = Times::longest();
+    let start = Instant::now(rt)?;
+    let points = bodies.points(alloc)?;
+    let tree = Octree::of_points(alloc, &points)?;
+    times.tree = since(rt, start)?;
+    let start = Instant::now(rt)?;
+    let _extent = tree.extent();
+    times.counts = since(rt, start)?;
+    let start = Instant::now(rt)?;
+    let _whole = tree.write_text(sink).is_ok();
+    times.text = since(rt, start)?;
+    let costs = costs_of(alloc, bodies)?;
+    let start = Instant::now(rt)?;
+    let table = moments(rt, alloc, &tree, bodies, &costs)?;
+    times.moments = since(rt, start)?;
+    let start = Instant::now(rt)?;
+    let _zones = zones(alloc, &tree, &table, &costs, 1)?;
+    times.zones = since(rt, start)?;
+    Ok(times)
+}
+
+/// Times the frame of a scene's bodies, and tells how many terms the pulls have.
 fn time_frame<R: Clock>(
     rt: &R,
     alloc: Global,
     plan: Plan,
     bodies: Bodies,
-) -> anyhow::Result<(u128, u128, u64)> {
+) -> anyhow::Result<(u128, u64)> {
     let mut engine = Engine::open(alloc, plan, bodies)?;
-    let start = Instant::now(rt)?;
     engine.tree()?;
-    let tree = start.elapsed(rt)?.as_nanos();
     let start = Instant::now(rt)?;
     let frame = engine.frame(rt)?;
-    Ok((tree, start.elapsed(rt)?.as_nanos(), frame.met))
+    Ok((since(rt, start)?, frame.met))
 }
 
-/// The scene's bodies.
-fn bodies_of(alloc: Global, bytes: &[u8]) -> anyhow::Result<Bodies> {
-    Ok(read_scene(alloc, bytes)?.bodies)
+/// Times one round over a scene.
+fn time_round<R: Clock, K: Sink>(
+    rt: &R,
+    alloc: Global,
+    plan: Plan,
+    bytes: &[u8],
+    sink: &mut K,
+) -> anyhow::Result<Times> {
+    let start = Instant::now(rt)?;
+    let scene = read_scene(alloc, bytes)?;
+    let reading = since(rt, start)?;
+    let parts = time_parts(rt, alloc, &scene.bodies, sink)?;
+    let (frame, met) = time_frame(rt, alloc, plan, scene.bodies)?;
+    let pulls = frame.saturating_sub(parts.moments.saturating_add(parts.zones));
+    Ok(Times {
+        reading,
+        pulls,
+        met,
+        ..parts
+    })
 }
 
 /// The least times of some rounds over a scene.
-fn times_of<R: Clock>(
+fn times_of<R: Clock, K: Sink>(
     rt: &R,
     alloc: Global,
     plan: Plan,
     rounds: u32,
     bytes: &[u8],
+    sink: &mut K,
 ) -> anyhow::Result<Times> {
-    let mut least = Times {
-        tree: u128::MAX,
-        moments: u128::MAX,
-        frame: u128::MAX,
-        met: 0,
-    };
+    let mut least = Times::longest();
     for _ in 0..rounds {
-        let bodies = bodies_of(alloc, bytes)?;
-        least.moments = least.moments.min(time_moments(rt, alloc, &bodies)?);
-        let (tree, frame, met) = time_frame(rt, alloc, plan, bodies)?;
-        least.tree = least.tree.min(tree);
-        least.frame = least.frame.min(frame);
-        least.met = met;
+        least = least.least(time_round(rt, alloc, plan, bytes, sink)?);
     }
     Ok(least)
 }
@@ -145,10 +202,15 @@ fn main(rt: HostRuntime) -> anyhow::Result<()> {
     let Input::Whole(bytes) = read_all(alloc, &mut source, MOST_BYTES)? else {
         return Ok(());
     };
-    let times = times_of(&rt, alloc, plan, rounds, &bytes)?;
-    println!(rt; "tree {}", times.tree)?;
-    println!(rt; "moments {}", times.moments)?;
-    println!(rt; "frame {}", times.frame)?;
-    println!(rt; "met {}", times.met)?;
+    let mut sink = StdSink::new(rt.stdout());
+    let times = times_of(&rt, alloc, plan, rounds, &bytes, &mut sink)?;
+    eprintln!(rt; "reading {}", times.reading)?;
+    eprintln!(rt; "tree {}", times.tree)?;
+    eprintln!(rt; "counts {}", times.counts)?;
+    eprintln!(rt; "text {}", times.text)?;
+    eprintln!(rt; "moments {}", times.moments)?;
+    eprintln!(rt; "zones {}", times.zones)?;
+    eprintln!(rt; "pulls {}", times.pulls)?;
+    eprintln!(rt; "met {}", times.met)?;
     Ok(())
 }
