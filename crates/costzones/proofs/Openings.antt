@@ -1,6 +1,7 @@
 -- How many cells are opened on the way to the bodies that begin in a range of cost: at most as many as the tree is high for each of them, and as many again.
 use Rattle.std.proofs.Common.{◌≡◌, ◌≤◌, ◌<◌, ◌+◌, ◌-◌, ◌*◌, ◌&&◌, inl, inr, ℕ, zero, suc, cond, List, [], ◌∷◌, length, ltb, max, min, true, false, refl, ap}
-use Rattle.std.proofs.Common.{◌∙◌, sym, arith, sum_by, length-append}
+use Rattle.std.proofs.Common.{◌∙◌, arith, sum_by, length-append}
+use Rattle.std.specs.Prelude.{if◌then◌else◌}
 use Rattle.std.proofs.Math.Nat.{mul-le-mul_left, mul-le-mul_right}
 use Rattle.std.proofs.lemmas.Bool.{cases_Bool, cases_lt, ltb-true}
 use Rattle.std.proofs.lemmas.Bool.Decides.{nat_tests}
@@ -28,37 +29,41 @@ child_ends cost p child k l =
 abbrev pub child_opened : (ℕ → ℕ) → ℕ → ℕ → ℕ → (ℕ → Tree) → ℕ → ℕ
 child_opened cost low high p child k = opened_from cost low high (child_start cost p child k) (child k)
 
+-- the cells of a cell, by whether its span meets the range
+opened-split : (cost : ℕ → ℕ) (low high p : ℕ) (child : ℕ → Tree)
+    → opened_from cost low high p (cell_of child)
+    ≡ (if meets low high p (p + total cost (cell_of child)) then 1 + sum_upto (child_opened cost low high p child) 8 else 0)
+unfolding opened_from sum_upto
+opened-split cost low high p child =
+    let T : ℕ → ℕ = λ k. total cost (child k) in
+    let end : p + total cost (cell_of child) ≡ p + T 0 + T 1 + T 2 + T 3 + T 4 + T 5 + T 6 + T 7 = omega (arith, total-cell cost child) in
+    let from : (k q : ℕ) → q ≡ child_start cost p child k → opened_from cost low high q (child k) ≡ child_opened cost low high p child k =
+    λ k q e. ap (λ y. opened_from cost low high y (child k)) e in
+    rw end
+    (ap (λ n. if meets low high p (p + T 0 + T 1 + T 2 + T 3 + T 4 + T 5 + T 6 + T 7) then n else 0)
+    (omega (
+      arith,
+      from 0 p (omega arith),
+      from 1 (p + T 0) (omega arith),
+      from 2 (p + T 0 + T 1) (omega arith),
+      from 3 (p + T 0 + T 1 + T 2) (omega arith),
+      from 4 (p + T 0 + T 1 + T 2 + T 3) (omega arith),
+      from 5 (p + T 0 + T 1 + T 2 + T 3 + T 4) (omega arith),
+      from 6 (p + T 0 + T 1 + T 2 + T 3 + T 4 + T 5) (omega arith),
+      from 7 (p + T 0 + T 1 + T 2 + T 3 + T 4 + T 5 + T 6) (omega arith),
+    )))
+
 -- a cell that is opened
 pub opened-cell : (cost : ℕ → ℕ) (low high p : ℕ) (child : ℕ → Tree) → meets low high p (p + total cost (cell_of child)) ≡ true
     → opened_from cost low high p (cell_of child) ≡ 1 + sum_upto (child_opened cost low high p child) 8
-unfolding opened_from sum_upto
 opened-cell cost low high p child test =
-    let O : ℕ → Tree → ℕ = λ q t. opened_from cost low high q t in
-    let T : ℕ → ℕ = λ k. total cost (child k) in
-    let end : p + total cost (cell_of child) ≡ p + T 0 + T 1 + T 2 + T 3 + T 4 + T 5 + T 6 + T 7 = omega (arith, total-cell cost child) in
-    let test' : meets low high p (p + T 0 + T 1 + T 2 + T 3 + T 4 + T 5 + T 6 + T 7) ≡ true = ap (meets low high p) (sym end) ∙ test in
-    rw test'
-    (omega (
-      arith,
-      ap (λ q. O q (child 0)) (let e : p ≡ child_start cost p child 0 = omega arith in e),
-      ap (λ q. O q (child 1)) (let e : p + T 0 ≡ child_start cost p child 1 = omega arith in e),
-      ap (λ q. O q (child 2)) (let e : p + T 0 + T 1 ≡ child_start cost p child 2 = omega arith in e),
-      ap (λ q. O q (child 3)) (let e : p + T 0 + T 1 + T 2 ≡ child_start cost p child 3 = omega arith in e),
-      ap (λ q. O q (child 4)) (let e : p + T 0 + T 1 + T 2 + T 3 ≡ child_start cost p child 4 = omega arith in e),
-      ap (λ q. O q (child 5)) (let e : p + T 0 + T 1 + T 2 + T 3 + T 4 ≡ child_start cost p child 5 = omega arith in e),
-      ap (λ q. O q (child 6)) (let e : p + T 0 + T 1 + T 2 + T 3 + T 4 + T 5 ≡ child_start cost p child 6 = omega arith in e),
-      ap (λ q. O q (child 7)) (let e : p + T 0 + T 1 + T 2 + T 3 + T 4 + T 5 + T 6 ≡ child_start cost p child 7 = omega arith in e),
-    ))
+    opened-split cost low high p child ∙ ap (λ b. if b then 1 + sum_upto (child_opened cost low high p child) 8 else 0) test
 
 -- and one that isn't
 opened-apart : (cost : ℕ → ℕ) (low high p : ℕ) (child : ℕ → Tree) → meets low high p (p + total cost (cell_of child)) ≡ false
     → opened_from cost low high p (cell_of child) ≡ 0
-unfolding opened_from sum_upto
 opened-apart cost low high p child test =
-    let T : ℕ → ℕ = λ k. total cost (child k) in
-    let end : p + total cost (cell_of child) ≡ p + T 0 + T 1 + T 2 + T 3 + T 4 + T 5 + T 6 + T 7 = omega (arith, total-cell cost child) in
-    let test' : meets low high p (p + T 0 + T 1 + T 2 + T 3 + T 4 + T 5 + T 6 + T 7) ≡ false = ap (meets low high p) (sym end) ∙ test in
-    rw test' refl
+    opened-split cost low high p child ∙ ap (λ b. if b then 1 + sum_upto (child_opened cost low high p child) 8 else 0) test
 
 pub opened-empty : (cost : ℕ → ℕ) (low high p : ℕ) → opened_from cost low high p Empty ≡ 0
 unfolding opened_from
