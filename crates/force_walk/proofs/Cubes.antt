@@ -2,7 +2,7 @@
 use Rattle.std.proofs.Common.{ℕ, suc, ◌+◌, ◌-◌, ◌*◌, ◌^◌, ◌<◌, ◌≤◌, ◌≡◌, List, length, All, sym, ap, subst, arith}
 use Rattle.std.proofs.Math.Nat.{mul-le-mul_left, mul-le-mul_right, pow-suc}
 use Rattle.octant_code.proofs.Keys.{pow8-mono}
-use Rattle.bh_model.proofs.Totals.{child_total, each_of_eight}
+use Rattle.bh_model.proofs.Totals.{child_total}
 use Rattle.bh_model.specs.Moments.{Matter, mass_of, total}
 use Rattle.bh_model.specs.Pulls.{PullLaw}
 use Rattle.bh_model.specs.Standing.{Stands}
@@ -12,7 +12,7 @@ use Rattle.octree.specs.Subtree.{IsBodyAt, IsCellAt, IsChildOf}
 use Rattle.force_walk.specs.Cubes.{HasRoom, IsTreeOfCube}
 use Rattle.force_walk.specs.Flat.{IsLaid, flat}
 use Rattle.force_walk.specs.Least.{AreLeast}
-use Rattle.force_walk.proofs.Flats.{flat_laid, flat_short, heavy_tree}
+use Rattle.force_walk.proofs.Flats.{child_stands, flat_laid, flat_short, heavy_tree}
 
 -- the key of a cube in a cube has room
 key_room : (key k down most : ℕ) → 1 ≤ down → k < 8 → (key + 1) * 8 ^ down ≤ most → (8 * key + k + 1) * 8 ^ (down - 1) ≤ most
@@ -73,8 +73,7 @@ module _ {m : Matter} {most down : ℕ} {s cell : Spot} (at : IsCellAt s cell) (
       λ q. subst (λ (y : Tree). total q (child_under cell k) ≤ total q y) (sym at.tree) (child_total q (child_under cell) k small) in
       subst (IsTreeOfCube m most (down - 1)) (sym is.tree)
       (record {
-        stands =
-            each_of_eight (λ j. Stands most (down - 1) (child_under cell j)) stands.2 stands.3 stands.4 stands.5 stands.6 stands.7 stands.8 stands.9 k small;
+        stands = child_stands most down (child_under cell) stands k small;
         shallow = omega (arith, cube.shallow);
         heavy = cube.heavy;
         light = omega (arith, less m.mass, cube.light);

@@ -29,10 +29,6 @@ quotient_tells s y d positive =
 beyond_tells : (s y d most : ℕ) → 0 < y → most ≤ s / y → d < most → ltb d most ≡ not (ltb s (y * d))
 beyond_tells s y d most positive high near = rw (near_test s y d positive (omega arith), lt-ltb d most near)
 
--- no cube is far where the opening angle is 0
-never_tells : (s d most : ℕ) → d < most → ltb d most ≡ not (ltb s (0 * 0 * d))
-never_tells s d most near = let none : 0 * 0 * d ≡ 0 = omega arith in rw (none, le-ltb s 0 (omega arith), lt-ltb d most near)
-
 -- four to a power is the square of two to it
 pub four_pow : (d : ℕ) → d ≤ 21 → (1 * 2 ^ (2 * d)) % 2 ^ 128 ≡ 2 ^ d * 2 ^ d
 four_pow d h =

@@ -88,6 +88,12 @@ heavy_tree m most heavy down (Cell a b c d e f g h) stands =
       heavy_tree m most heavy (down - 1) h stands.9,
     )
 
+-- the children of a cell stand
+pub child_stands : (most down : ℕ) (child : ℕ → Tree) → Stands most down (cell_of child) → (k : ℕ) → k < 8 → Stands most (down - 1) (child k)
+unfolding Stands
+child_stands most down child stands =
+    each_of_eight (λ k. Stands most (down - 1) (child k)) stands.2 stands.3 stands.4 stands.5 stands.6 stands.7 stands.8 stands.9
+
 -- each node of the table of a tree of less than 2 ^ 40 in mass can be walked
 pub flat_laid : (law : PullLaw) (m : Matter) (least : List ℕ) → AreLeast law least → (down : ℕ) (tree : Tree) → mass_of m tree < 2 ^ 40 → down ≤ 21
     → All IsLaid (flat m least down tree)

@@ -56,9 +56,6 @@ pub lay_one : {s : Spot} {n : ℕ} (m : Matter) (least : List ℕ) (down : ℕ) 
 lay_one {s} {n} m least down nodes one at own =
     ap (λ x. nodes ++ x ∷ []) own ∙ ap (λ l. nodes ++ l) (sym (ap (flat m least down) at.tree ∙ flat_one m least down n))
 
-pub one_long : {s : Spot} {n : ℕ} (m : Matter) (least : List ℕ) (down : ℕ) → IsBodyAt s n → length (flat m least down (tree_under s)) ≡ 1
-one_long {s} {n} m least down at = ap length (ap (flat m least down) at.tree ∙ flat_one m least down n)
-
 -- the nodes before a cell's own, and then all from it on
 set_skip : (old below now : List WalkNode) (own : WalkNode) (at : ℕ) → at ≡ length old → now ≡ (old ++ own ∷ []) ++ below
     → set now at (record (get_or now at no_node) { skip = length now - at }) ≡ old ++ (record own { skip = 1 + length below }) ∷ below

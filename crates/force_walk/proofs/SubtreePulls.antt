@@ -17,7 +17,7 @@ use Rattle.bh_model.proofs.Totals.{child_total, each_of_eight, sum_upto-le, tota
 use Rattle.octree.specs.Spot.{Spot, child_under, tree_under}
 use Rattle.octree.specs.Subtree.{IsBodyAt, IsCellAt, IsChildOf, IsNothingAt}
 use Rattle.force_walk.specs.Cubes.{IsTreeOfCube}
-use Rattle.force_walk.proofs.Flats.{child_pull}
+use Rattle.force_walk.proofs.Flats.{child_pull, child_stands}
 
 -- ---- how large the pull of a tree is
 
@@ -131,14 +131,7 @@ module _ {m : Matter} {most down : ℕ} {s cell child : Spot} {k : ℕ} (at : Is
       let pulls : ℕ → Pull = child_pull law m n down key child_of in
       let stands : Stands most down (cell_of child_of) = subst (Stands most down) at.tree cube.stands in
       let each : (j : ℕ) → j < 8 → IsBounded law m (child_of j) (pulls j) =
-      each_of_eight (λ j. IsBounded law m (child_of j) (pulls j)) (pull_bounded law m most n apart (child_of 0) (down - 1) (8 * key + 0) stands.2)
-      (pull_bounded law m most n apart (child_of 1) (down - 1) (8 * key + 1) stands.3)
-      (pull_bounded law m most n apart (child_of 2) (down - 1) (8 * key + 2) stands.4)
-      (pull_bounded law m most n apart (child_of 3) (down - 1) (8 * key + 3) stands.5)
-      (pull_bounded law m most n apart (child_of 4) (down - 1) (8 * key + 4) stands.6)
-      (pull_bounded law m most n apart (child_of 5) (down - 1) (8 * key + 5) stands.7)
-      (pull_bounded law m most n apart (child_of 6) (down - 1) (8 * key + 6) stands.8)
-      (pull_bounded law m most n apart (child_of 7) (down - 1) (8 * key + 7) stands.9) in
+      λ j i. pull_bounded law m most n apart (child_of j) (down - 1) (8 * key + j) (child_stands most down child_of stands j i) in
       let before = upto_bounded law m n down key child_of k (omega arith) each in
       let after = upto_bounded law m n down key child_of (suc k) (omega arith) each in
       let mass : mass_of m (cell_of child_of) < 2 ^ 40 = omega (arith, cube.light, ap (mass_of m) at.tree) in

@@ -1,4 +1,4 @@
-use Rattle.std.proofs.Common.{◌^◌, arith, ap, sym, subst}
+use Rattle.std.proofs.Common.{◌^◌, arith, sym, subst}
 use Rattle.bh_model.specs.Pulls.{IsSmall}
 use Rattle.bh_model.specs.declared.pull.Pull.{Pull}
 use Rattle.bh_model.proofs.PullBounds.{small_more}

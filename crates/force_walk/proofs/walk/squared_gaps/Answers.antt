@@ -1,0 +1,13 @@
+use Rattle.std.proofs.Common.{◌≡◌, ◌+◌, ◌∙◌, ap, arith}
+use Rattle.octant_code.specs.Space.{Site, squared_distance, squared_gap}
+use Rattle.force_walk.proofs.walk.squared_gaps.Goals as goal
+
+pub returns-clause-value : goal.returns-clause-value
+unfolding squared_distance
+returns-clause-value c =
+    let s : Site = record { x = c.from.inside.x; y = c.from.inside.y; z = c.from.inside.z } in
+    let t : Site = record { x = c.to.inside.x; y = c.to.inside.y; z = c.to.inside.z } in
+    let parts : c.squared_gap.result + c.squared_gap-2.result + c.squared_gap-3.result
+    ≡ squared_gap s.x t.x + squared_gap s.y t.y + squared_gap s.z t.z =
+    omega (arith, c.squared_gap.ensures.value, c.squared_gap-2.ensures.value, c.squared_gap-3.ensures.value) in
+    parts ∙ ap (λ u. squared_distance u t) c.from.view_is ∙ ap (λ u. squared_distance c.args.from u) c.to.view_is
