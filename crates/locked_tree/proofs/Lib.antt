@@ -3,3 +3,4 @@ mod Rests
 mod Starts
 mod Puts
 mod Resting
+mod Counted

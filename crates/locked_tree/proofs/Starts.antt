@@ -1,5 +1,5 @@
 -- The words and the cells that a tree is opened with.
-use Rattle.std.proofs.Common.{◌≡◌, ℕ, zero, suc, ◌+◌, ◌-◌, ◌*◌, ◌<◌, ◌≤◌, List, [], ◌∷◌, ◌++◌, length, take, replicate, refl, sym, ap, subst, ◌∙◌, inl, inr, set, arith, length-set, get_or-set_other}
+use Rattle.std.proofs.Common.{◌≡◌, ℕ, zero, suc, ◌+◌, ◌-◌, ◌<◌, ◌≤◌, List, [], ◌∷◌, ◌++◌, length, take, replicate, refl, sym, ap, subst, ◌∙◌, inl, inr, set, arith, get_or-set_other}
 use Rattle.std.proofs.lemmas.Bool.{cases_lt}
 use Rattle.std.proofs.lemmas.List.{get_or_past, get_or-replicate, get_or-append_right, get_or_append_left, length-append, length-replicate, take_all}
 use Rattle.octant_code.specs.Space.{Site}
@@ -11,14 +11,14 @@ use Rattle.tree_rule.specs.Words.{HasBody, HasCell, IsReached, at_of, body_word,
 use Rattle.tree_rule.specs.Sound.{BodiesUnder, IsSound}
 use Rattle.octree.specs.Stored.{AreOctreeWords, IsBlankFrom, IsCanonical, IsStored, Stored, word_count}
 use Rattle.tree_passes.specs.declared.view.TheConstants.{POOL_PLACE}
-use Rattle.tree_passes.specs.Counting.{numbers_from, times}
+use Rattle.tree_passes.specs.Counting.{numbers_from}
 use Rattle.tree_passes.specs.Opening.{fresh_view}
 use Rattle.tree_passes.specs.Ends.{CanOpen, CanPool}
 use Rattle.tree_passes.proofs.Laws.{once_times, times_in}
 use Rattle.locked_tree.specs.declared.tree.Pool.{Pool}
 use Rattle.locked_tree.specs.declared.tree.Pool.TheVariants as pool
 use Rattle.locked_tree.specs.Ends.{AreStartWords}
-use Rattle.locked_tree.specs.Seen.{HasRoom, HasStock, IsAtRest, IsCounted}
+use Rattle.locked_tree.specs.Seen.{HasRoom, HasStock, IsAtRest}
 
 numbers_next : (from n : ℕ) → numbers_from from n ++ (from + n) ∷ [] ≡ numbers_from from (suc n)
 numbers_next from zero = let e : from + 0 ≡ from = omega arith in ap (λ (z : ℕ). z ∷ []) e

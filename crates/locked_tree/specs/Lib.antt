@@ -1,4 +1,4 @@
 pub mod Ends
-pub mod Inserting
 pub mod Finding
+pub mod Inserting
 pub mod Seen

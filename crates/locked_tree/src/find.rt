@@ -17,6 +17,7 @@ pub fn find(table: &Words, pass: &mut Pass, points: &Points, p: Point) -> Option
     requires points { pass.old.me.0.points ≡ points.now }
     requires long { length pass.old.me.0.memory ≡ table.now.table_id.words }
     ensures pass { (pass.new.table_id ≡ pass.old.table_id) × (pass.new.me.1 ≡ pass.old.me.1) }
+    ensures under { pass.new.me.0.under ≡ pass.old.me.0.under }
     ensures some { IfSome result (HasFound pass.old.me.0 pass.new.me.0 p) }
     ensures none { IfNone result (HasNone pass.old.me.0 pass.new.me.0 p) }
 {

@@ -1,6 +1,5 @@
-use Rattle.std.proofs.Common.{◌≡◌, ◌+◌, ◌*◌, ◌≤◌, ◌++◌, ℕ, List, ap, sym, subst, ◌∙◌, length, take, drop, arith}
+use Rattle.std.proofs.Common.{◌≡◌, ◌≤◌, ◌++◌, ℕ, List, ap, sym, subst, ◌∙◌, length, take, drop, arith}
 use Rattle.std.specs.Slots.{slots_items}
-use Rattle.tree_rule.specs.Words.{at_of}
 use Rattle.octree.specs.Stored.{AreOctreeWords, IsBlankFrom, Stored, tree_with_used, word_count}
 use Rattle.tree_passes.specs.declared.view.TheConstants.{POOL_PLACE}
 use Rattle.tree_passes.specs.Opening.{opening_of}

@@ -1,4 +1,4 @@
-use Rattle.std.proofs.Common.{◌+◌, ◌≤◌, refl, arith, length}
+use Rattle.std.proofs.Common.{◌+◌, refl, arith}
 use Rattle.locked_tree.proofs.Copies.{row_copied, row_more}
 use Rattle.locked_tree.proofs.copy.copy_cell.Goals as goal
 

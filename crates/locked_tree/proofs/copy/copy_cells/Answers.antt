@@ -1,6 +1,4 @@
-use Rattle.std.proofs.Common.{◌≡◌, ℕ, arith, subst}
-use Rattle.std.specs.Slots.{slots_items}
-use Rattle.locked_tree.specs.Ends.{AreCopied}
+use Rattle.std.proofs.Common.{arith}
 use Rattle.locked_tree.proofs.Copies.{copied_more, none_copied}
 use Rattle.locked_tree.proofs.copy.copy_cells.Goals as goal
 

@@ -10,11 +10,9 @@ use Rattle.tree_passes.specs.Passes.{KnowsPlace}
 use Rattle.tree_passes.specs.Turns.{Descends}
 use Rattle.tree_passes.proofs.Laws.{body_inside, cell_below, found_body, none_empty, none_other, place_below, still_refl}
 use Rattle.locked_tree.proofs.Puts.{word_small}
+use Rattle.locked_tree.proofs.Resting.{true_not_false, under_sought}
 use Rattle.locked_tree.proofs.find.find.Goals.{After-seek, In-Body, In-Cell}
 use Rattle.locked_tree.proofs.find.find.Goals as goal
-
-true_not_false : true ≡ false → ⊥
-true_not_false e = cc
 
 -- what the load told
 sought : (c : After-seek) → Sought c.loop-level.pass.me.0 c.loop-level.word (key_of c.args.p c.loop-level.level) c.seek.result c.args.p c.seek.new.pass.me.0
@@ -31,7 +29,7 @@ below : (c : In-Cell) → Descends c.args.pass.now.me.0 c.seek.new.pass.me.0 (ke
 below c = let i = c.loop-level.invariant in cell_below _ _ _ _ _ _ _ i.5 i.3 (c.seek.ensures.sought _ i.4) _ c.in-Cell.ensures
 
 pub loop-level-init : goal.loop-level-init
-loop-level-init c = (refl, refl, c.requires.some, omega arith, inl (refl, key-zero _), still_refl _)
+loop-level-init c = (refl, refl, c.requires.some, omega arith, inl (refl, key-zero _), still_refl _, refl)
 
 pub named_by-requires : goal.named_by-requires
 named_by-requires c =
@@ -44,6 +42,15 @@ pub returns-in-Nothing-clause-none : goal.returns-in-Nothing-clause-none
 returns-in-Nothing-clause-none c =
     let i = c.loop-level.invariant in
     none_empty _ _ _ _ _ _ _ i.5 i.3 (sought (goal.at.returns-in-Nothing-clause-none c).After-seek) c.in-Nothing.ensures
+
+pub returns-in-Nothing-clause-under : goal.returns-in-Nothing-clause-under
+returns-in-Nothing-clause-under c = let i = c.loop-level.invariant in under_sought _ _ _ _ _ _ (c.seek.ensures.sought _ i.4) ∙ i.6
+
+pub returns-then-eq-clause-under : goal.returns-then-eq-clause-under
+returns-then-eq-clause-under c = let i = c.loop-level.invariant in under_sought _ _ _ _ _ _ (c.seek.ensures.sought _ i.4) ∙ i.6
+
+pub returns-in-Body-clause-under : goal.returns-in-Body-clause-under
+returns-in-Body-clause-under c = let i = c.loop-level.invariant in under_sought _ _ _ _ _ _ (c.seek.ensures.sought _ i.4) ∙ i.6
 
 pub at-requires : goal.at-requires
 at-requires c = named c
@@ -80,4 +87,5 @@ loop-level-preserved c =
       subst (λ (z : ℕ). KnowsPlace c.seek.new.pass.me.0 z (key_of c.args.p (c.loop-level.level + 1))) (sym c.place_of_child-word.ensures)
           (subst (KnowsPlace c.seek.new.pass.me.0 (child_place c.in-Cell.cell c.octant.result)) key (place_below _ _ c.in-Cell.cell c.octant.result d.below small)),
       d.still,
+      under_sought _ _ _ _ _ _ (c.seek.ensures.sought _ i.4) ∙ i.6,
     )

@@ -8,4 +8,4 @@ use Rattle.locked_tree.proofs.find.find.Given as goal
 abbrev pub invariant-loop-level : goal.invariant-loop-level
 invariant-loop-level l =
     (l.pass.table_id ≡ l.fn.pass.table_id) × (l.pass.me.1 ≡ l.fn.pass.me.1) × (l.word < l.table.table_id.words) × (l.level ≤ LEVELS)
-    × KnowsPlace l.pass.me.0 l.word (key_of l.p l.level) × IsStill l.fn.pass.me.0 l.pass.me.0
+    × KnowsPlace l.pass.me.0 l.word (key_of l.p l.level) × IsStill l.fn.pass.me.0 l.pass.me.0 × (l.pass.me.0.under ≡ l.fn.pass.me.0.under)

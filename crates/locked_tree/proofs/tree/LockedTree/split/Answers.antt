@@ -1,4 +1,4 @@
-use Rattle.std.proofs.Common.{◌≡◌, ◌≤◌, ℕ, List, length, ap, sym, subst, ◌∙◌, arith}
+use Rattle.std.proofs.Common.{◌≡◌, ℕ, List, length, ap, sym, subst, ◌∙◌, arith}
 use Rattle.tree_passes.specs.Counting.{times}
 use Rattle.tree_passes.specs.Passes.{given_part, kept_part}
 use Rattle.locked_tree.specs.Seen.{IsAtRest, stock_of}
