@@ -60,8 +60,7 @@ pub linked : (sites : List Site) (words longer after : List ℕ) (used to a key 
     → StandsFor (site_at sites) (at_of after) (cell_word (used + 1)) (8 * key + a) (IsTaken (used + 1) to) (IsOneOf x n)
     → StandsFor (site_at sites) (at_of after) (cell_word used) key (IsTaken used to) (IsOneOf x n)
 linked sites words longer after used to a key level x n q value cell is_q small is_value kept next pair sub =
-    let key_now : at_of after (key_place used) ≡ key = kept (key_place used) (omega arith) ∙ at_set_other longer q (key_place used) value (λ e. omega arith)
-    ∙ cell.keyed in
+    let key_now = kept (key_place used) (omega arith) ∙ at_set_other longer q (key_place used) value (λ e. omega arith) ∙ cell.keyed in
     let kid_now : at_of after (child_place used a) ≡ cell_word (used + 1) =
     kept (child_place used a) (omega arith) ∙ at_set_same longer q (child_place used a) value (sym is_q) (omega (arith, cell.len)) ∙ is_value in
     let others : (j : ℕ) → j < 8 → j ≢ a → at_of after (child_place used j) ≡ 0 = λ j l h.

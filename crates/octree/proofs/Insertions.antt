@@ -96,17 +96,20 @@ record IsPart (sites : List Site) (o : Stored) (next : List ℕ) (Q M : ℕ → 
 
 module _ (sites : List Site) (o : Stored) (next : List ℕ) (Q M : ℕ → Type 0) (n place level to v : ℕ) (h : CanInsert sites o n)
     (part : IsPart sites o next Q M n place level to v) where
-  site : ℕ → Site
+  abbrev site : ℕ → Site
   site = site_at sites
+
+  abbrev key : ℕ
+  key = key_of (site_at sites n) level
 
   -- the place is below those of cells that are not used
   place_used : place < word_count o.used
   place_used = omega (arith, part.inside, h.stored.long)
 
   -- it is the same place among the longer words
-  place_moved : (key : ℕ) → IsPlaceOf (at_of o.words) 0 o.base (HasCell o.words) key place → IsPlaceOf (at_of next) 0 o.base (HasCell o.words) key place
-  place_moved key (TopPlace k e) = TopPlace k e
-  place_moved key (ChildPlace c j p l k e) =
+  place_moved : (k : ℕ) → IsPlaceOf (at_of o.words) 0 o.base (HasCell o.words) k place → IsPlaceOf (at_of next) 0 o.base (HasCell o.words) k place
+  place_moved _ (TopPlace k e) = TopPlace k e
+  place_moved _ (ChildPlace c j p l k e) =
       ChildPlace c j p l (k ∙ ap (λ y. 8 * y + j) (sym (part.appended.kept (key_place c) (omega (arith, h.stored.cells_used c p))))) e
 
   -- it lies below the octree's cube
@@ -124,38 +127,44 @@ module _ (sites : List Site) (o : Stored) (next : List ℕ) (Q M : ℕ → Type 
   kept = part.appended.kept
 
   -- the longer words stand for what the words stood for
-  longer : StandsFor (site_at sites) (at_of next) (at_of next 0) o.base (HasCell o.words) (HasBody o.words)
+  longer : StandsFor site (at_of next) (at_of next 0) o.base (HasCell o.words) (HasBody o.words)
   longer =
-      subst (λ (y : ℕ). StandsFor (site_at sites) (at_of next) y o.base (HasCell o.words) (HasBody o.words)) (sym (kept 0 (omega arith)))
-      (stands_moved (site_at sites) (at_of o.words) (at_of next) (at_of o.words 0) o.base (HasCell o.words) (HasBody o.words)
+      subst (λ (y : ℕ). StandsFor site (at_of next) y o.base (HasCell o.words) (HasBody o.words)) (sym (kept 0 (omega arith)))
+      (stands_moved site (at_of o.words) (at_of next) (at_of o.words 0) o.base (HasCell o.words) (HasBody o.words)
       (λ c p. kept (key_place c) (omega (arith, h.stored.cells_used c p))) (λ c j p l. kept (child_place c j) (omega (arith, h.stored.cells_used c p)))
       (stands_of sites o h.stored h.canonical))
 
+  abbrev Cells : ℕ → Type 0
+  Cells = Either (HasCell o.words) Q
+
+  abbrev Bodies : ℕ → Type 0
+  Bodies = Either (HasBody o.words) M
+
   -- and the words after the insertion for this and the part
-  both : StandsFor (site_at sites) (at_of after) (at_of after 0) o.base (Either (HasCell o.words) Q) (Either (HasBody o.words) M)
+  both : StandsFor site (at_of after) (at_of after 0) o.base Cells Bodies
   both =
       let same : at_of next place ≡ at_of o.words place = kept place place_used in
       let inside : place < length next = omega (arith, place_used, part.appended.len, part.appended.more) in
-      graft (site_at sites) (at_of next) (at_of after) 0 o.base (HasCell o.words) Q (HasBody o.words) M (HasBody o.words) M (key_of (site_at sites n) level)
+      graft site (at_of next) (at_of after) 0 o.base (HasCell o.words) Q (HasBody o.words) M (HasBody o.words) M key
       place v (record {
         before = longer;
-        below = stands_moved (site_at sites) (at_of next) (at_of after) v (key_of (site_at sites n) level) Q M
+        below = stands_moved site (at_of next) (at_of after) v key Q M
             (λ c p. let new = part.cells_new c p in other (key_place c) (λ e. omega (arith, new.0, place_used)))
             (λ c j p l. let new = part.cells_new c p in other (child_place c j) (λ e. omega (arith, new.0, place_used))) part.stands;
-        there = place_moved (key_of (site_at sites n) level) below_base;
+        there = place_moved key below_base;
         no_cell = λ c e. part.no_cell c (sym same ∙ e);
         body_joins = λ m e. part.body_joins m (sym same ∙ e);
         changed = record { now = at_set_same next place place v refl inside; others = other };
       })
 
-  cells_now : (c : ℕ) → Either (HasCell o.words) Q c ↔ HasCell after c
-  cells_now = cell_reached (site_at sites) (at_of after) (at_of after 0) o.base (Either (HasCell o.words) Q) (Either (HasBody o.words) M) both
+  cells_now : (c : ℕ) → Cells c ↔ HasCell after c
+  cells_now = cell_reached site (at_of after) (at_of after 0) o.base Cells Bodies both
 
-  bodies_now : (m : ℕ) → Either (HasBody o.words) M m ↔ HasBody after m
-  bodies_now = body_reached (site_at sites) (at_of after) (at_of after 0) o.base (Either (HasCell o.words) Q) (Either (HasBody o.words) M) both
+  bodies_now : (m : ℕ) → Bodies m ↔ HasBody after m
+  bodies_now = body_reached site (at_of after) (at_of after 0) o.base Cells Bodies both
 
   stands_after : StandsWell sites after o.base
-  stands_after = stands_same (site_at sites) (at_of after) (at_of after 0) o.base (Either (HasCell o.words) Q) (HasCell after) (Either (HasBody o.words) M)
+  stands_after = stands_same site (at_of after) (at_of after 0) o.base Cells (HasCell after) Bodies
       (HasBody after) cells_now bodies_now both
 
   -- its bodies are those that the octree had, and the new one
@@ -172,8 +181,8 @@ module _ (sites : List Site) (o : Stored) (next : List ℕ) (Q M : ℕ → Type 
       shallow = h.stored.shallow;
       base_low = h.stored.base_low;
       base_high = h.stored.base_high;
-      sound = sound_of_stands (site_at sites) (at_of after) (at_of after 0) o.base (HasCell after) (HasBody after) stands_after;
-      unlocked = unlocked_at_place next to (at_of o.words) o.base (HasCell o.words) (key_of (site_at sites n) level) place v part.appended.unlocked below_base;
+      sound = sound_of_stands site (at_of after) (at_of after 0) o.base (HasCell after) (HasBody after) stands_after;
+      unlocked = unlocked_at_place next to (at_of o.words) o.base (HasCell o.words) key place v part.appended.unlocked below_base;
       cells_used = λ c p. elim ((cells_now c).1 p) [
         | inl had ↦ omega (arith, h.stored.cells_used c had, part.appended.more)
         | inr new ↦ (part.cells_new c new).1
@@ -181,14 +190,14 @@ module _ (sites : List Site) (o : Stored) (next : List ℕ) (Q M : ℕ → Type 
       bodies_small = λ m b. elim (body_after m b) [ inl had ↦ h.stored.bodies_small m had | inr e ↦ omega (arith, e, h.n_in, h.rule.few) ];
     };
     canonical = record {
-      under = bodies_of_stands (site_at sites) (at_of after) (at_of after 0) o.base (HasCell after) (HasBody after) stands_after;
+      under = bodies_of_stands site (at_of after) (at_of after 0) o.base (HasCell after) (HasBody after) stands_after;
       bodies_in = λ m b. elim (body_after m b) [ inl had ↦ h.canonical.bodies_in m had | inr e ↦ omega (arith, e, h.n_in) ];
     };
     inserted = record {
       bodies = λ m. (body_after m, (λ b. (bodies_now m).0 (elim b [ inl had ↦ inl had | inr e ↦ inr (subst M (sym e) part.joins) ])));
       cells_stay = λ c p. (cells_now c).0 (inl p);
       keys_stay = λ c p.
-          other (key_place c) (key_apart (at_of o.words) 0 o.base (HasCell o.words) (key_of (site_at sites n) level) place c (omega arith) below_base)
+          other (key_place c) (key_apart (at_of o.words) 0 o.base (HasCell o.words) key place c (omega arith) below_base)
           ∙ kept (key_place c) (omega (arith, h.stored.cells_used c p));
       base_stays = refl;
       held_stays = refl;
