@@ -11,7 +11,7 @@ use Rattle.octant_code.specs.Points.{site_at}
 use Rattle.octree.proofs.Subtrees.{bodies_of_tree}
 use Rattle.octree.proofs.WholeWords.{whole_level}
 use Rattle.octree.proofs.ReadWords.{reached_blank}
-use Rattle.octree.proofs.Rooms.{bodies_roomier, roomier_bodies, roomier_canonical}
+use Rattle.octree.proofs.Rooms.{roomier_bodies, roomier_canonical}
 use Rattle.octree.specs.Ranks.{HasEachOnce, IsAmong}
 use Rattle.octree.specs.Stored.{IsCanonical, IsInserted, IsRoomier, IsStored, Stored, tree_of}
 use Rattle.tree_rule.proofs.Laws.{forget}
@@ -47,7 +47,7 @@ module _ (sites : List Site) (list : List ℕ) (o next : Stored) (i : ℕ) (h : 
   built_roomier r = record {
     each = h.each;
     canonical = roomier_canonical sites o next r h.canonical;
-    bodies = λ m. ((λ b. (h.bodies m).0 (roomier_bodies o next m r b)), (λ l. bodies_roomier o next m r ((h.bodies m).1 l)));
+    bodies = λ m. ((λ b. (h.bodies m).0 ((roomier_bodies o next m r).0 b)), (λ l. (roomier_bodies o next m r).1 ((h.bodies m).1 l)));
     base = r.base_stays ∙ h.base;
     used = omega (arith, r.used_stays, h.used);
   }
@@ -102,6 +102,6 @@ built_tree sites list o i stored h e tree =
     let members : (m : ℕ) → IsIn (order (tree_of o)) m ↔ IsIn all m = λ m. (
       (λ b. (in_numbers (length sites) m).1 (h.canonical.bodies_in m ((bodies_of_tree o stored m).0 b))),
       (λ b. (bodies_of_tree o stored m).1 ((h.bodies m).1
-      (let f = h.each.all m ((in_numbers (length sites) m).0 b) in (f.0, omega (arith, f.1, e, h.each.many), f.2)))),
+          (let f = h.each.all m ((in_numbers (length sites) m).0 b) in (f.0, omega (arith, f.1, e, h.each.many), f.2)))),
     ) in
     tree all (numbers_once (length sites)) members ∙ ap (λ l. octree_from (site_at sites) (21 - l) l all) (whole_level o stored h.base)

@@ -1,5 +1,5 @@
 -- Counting the cells of a word, child by child.
-use Rattle.std.proofs.Common.{ℕ, ◌+◌, ◌*◌, ◌<◌, ◌≤◌, ◌≡◌, zero, suc, refl, sym, ◌∙◌, add-one, ap, arith, List, [], length, length-append}
+use Rattle.std.proofs.Common.{ℕ, ◌<◌, ◌≤◌, ◌≡◌, zero, suc, refl, sym, ◌∙◌, add-one, ap, arith, List, [], length, length-append}
 use Rattle.octant_code.proofs.Keys.{pow8-mono}
 use Rattle.bh_model.proofs.Lists.{joined}
 use Rattle.bh_model.proofs.Folds.{count_none, count_one, counts, counts_all, counts_next, counts_start}

@@ -1,13 +1,9 @@
 -- Words that are read in an octree.
-use Rattle.std.proofs.Common.{inl, inr, ℕ, ◌^◌, ◌<◌, ◌≤◌, ◌≡◌, sym, ◌∙◌, ap, subst, arith, List, length, replicate, slice_index_or}
-use Rattle.std.proofs.lemmas.Bool.{cases_lt}
-use Rattle.std.proofs.lemmas.List.{get_or-replicate, get_or_past, length-replicate, get_or_read}
+use Rattle.std.proofs.Common.{ℕ, ◌^◌, ◌<◌, ◌≡◌, sym, ◌∙◌, subst, arith, length, slice_index_or}
+use Rattle.std.proofs.lemmas.List.{get_or_read}
 use Rattle.octree.specs.Stored.{IsStored, Stored}
-use Rattle.tree_rule.specs.declared.words.TheConstants.{MOST_CELLS}
-use Rattle.tree_rule.specs.Words.{lock_place}
-use Rattle.tree_rule.proofs.Laws.{ACell, NoBody, OneBody, forget, word_is}
-use Rattle.tree_rule.specs.Sound.{IsReachedAs, IsSound}
-use Rattle.tree_rule.specs.Words.{Below, Here, IsReached, at_of, body_word, cell_word}
+use Rattle.tree_rule.proofs.Laws.{ACell, NoBody, OneBody, word_is}
+use Rattle.tree_rule.specs.Words.{Below, Here, IsReached, at_of, cell_word}
 
 -- a word that is read fits
 pub word_small : (o : Stored) (w : ℕ) → IsStored o → IsReached (at_of o.words) (at_of o.words 0) w → w < 2 ^ 33

@@ -1,12 +1,12 @@
 -- The words of an octree of the whole cube, made a tree again.
-use Rattle.std.proofs.Common.{ℕ, ◌+◌, ◌-◌, ◌*◌, ◌/◌, ◌<◌, ◌≤◌, ◌≡◌, ◌⊎◌, inl, inr, sym, ◌∙◌, ap, subst, arith, List, ◌++◌, length, length-append, replicate}
+use Rattle.std.proofs.Common.{ℕ, ◌+◌, ◌-◌, ◌*◌, ◌<◌, ◌≤◌, ◌≡◌, ◌⊎◌, inl, inr, sym, ◌∙◌, ap, subst, arith, List, ◌++◌, length, length-append, replicate}
 use Rattle.std.proofs.Common.{take, refl}
 use Rattle.std.proofs.lemmas.Bool.{cases_lt}
 use Rattle.std.proofs.lemmas.List.{get_or-replicate, get_or-append_right, get_or_append_left, length-replicate, length-take-le, take_all, take_at, get_or-take}
 use Rattle.bh_model.proofs.MoreThan.{one_of_more}
 use Rattle.octant_code.proofs.Keys.{pow8-mono}
 use Rattle.octree.proofs.Locks.{unlocked_more}
-use Rattle.octree.proofs.Words.{at_longer, at_past}
+use Rattle.octree.proofs.Words.{at_longer}
 use Rattle.octree.specs.Stored.{AreOctreeWords, IsBlankFrom, IsStored, Stored, all_used, all_words, cell_count_of, full_tree, spare_of, tree_with_used}
 use Rattle.tree_rule.proofs.Laws.{recall}
 use Rattle.tree_rule.specs.Words.{lock_place}

@@ -100,14 +100,8 @@ part_two-next-requires-clause-pair c =
 pub invariant_of-self-in-Some : goal.invariant_of-self-in-Some
 invariant_of-self-in-Some c = ((some_done c).stored, omega (arith, c.self.invariant.1, c.part_two-next.ensures.room))
 
-pub returns-in-None-clause-canonical : goal.returns-in-None-clause-canonical
-returns-in-None-clause-canonical c = (none_done c).canonical
+pub returns-in-None : goal.returns-in-None
+returns-in-None c = let d = none_done c in record { canonical = d.canonical; inserted = d.inserted }
 
-pub returns-in-None-clause-inserted : goal.returns-in-None-clause-inserted
-returns-in-None-clause-inserted c = (none_done c).inserted
-
-pub returns-in-Some-clause-canonical : goal.returns-in-Some-clause-canonical
-returns-in-Some-clause-canonical c = (some_done c).canonical
-
-pub returns-in-Some-clause-inserted : goal.returns-in-Some-clause-inserted
-returns-in-Some-clause-inserted c = (some_done c).inserted
+pub returns-in-Some : goal.returns-in-Some
+returns-in-Some c = let d = some_done c in record { canonical = d.canonical; inserted = d.inserted }

@@ -1,6 +1,6 @@
-use Rattle.std.proofs.Common.{◌<◌, length, subst, arith}
+use Rattle.std.proofs.Common.{◌<◌, length, refl, subst, arith}
 use Rattle.std.proofs.lemmas.List.{get_or_read}
-use Rattle.octree.specs.Stored.{Stored}
+use Rattle.octree.specs.Stored.{IsStored, Stored}
 use Rattle.octree.proofs.Subtrees.{IsWhole, spot_at, whole_is}
 use Rattle.octree.proofs.octree.Octree.whole.Goals.{After-index}
 use Rattle.octree.proofs.octree.Octree.whole.Goals as goal
@@ -16,14 +16,14 @@ known c =
 pub invariant_of-result : goal.invariant_of-result
 invariant_of-result c = (known (goal.at.invariant_of-result c).After-index).spot
 
-pub returns-clause-tree : goal.returns-clause-tree
-returns-clause-tree c = (known (goal.at.returns-clause-tree c).After-index).tree
-
-pub returns-clause-cells : goal.returns-clause-cells
-returns-clause-cells c = (known (goal.at.returns-clause-cells c).After-index).cells
-
-pub returns-clause-height : goal.returns-clause-height
-returns-clause-height c = (known (goal.at.returns-clause-height c).After-index).height
-
-pub returns-clause-bodies : goal.returns-clause-bodies
-returns-clause-bodies c = (known (goal.at.returns-clause-bodies c).After-index).bodies
+pub returns : goal.returns
+returns c =
+    let k = known (goal.at.returns c).After-index in
+    record {
+      rule = subst IsStored c.self.view_is c.self.invariant.0;
+      octree = refl;
+      tree = k.tree;
+      height = k.height;
+      cells = k.cells;
+      bodies = k.bodies;
+    }
