@@ -86,14 +86,13 @@ forked sites words longer used a b key level x n q r v w cell is_q is_r is_v is_
     let sa : a < 8 = omega (arith, is_a, octant-small (site_at sites x) level) in
     let sb : b < 8 = omega (arith, is_b, octant-small (site_at sites n) level) in
     let len : length first ≡ word_count (used + 1) = set_length longer q v ∙ cell.len in
-    let key_now : at_of last (key_place used) ≡ key =
-    at_set_other first r (key_place used) w (λ h. omega arith) ∙ at_set_other longer q (key_place used) v (λ h. omega arith) ∙ cell.keyed in
-    let a_now : at_of last (child_place used a) ≡ body_word x =
-    at_set_other first r (child_place used a) w (λ h. apart (omega arith)) ∙ at_set_same longer q (child_place used a) v (sym is_q) (omega (arith, cell.len))
-    ∙ is_v in
-    let b_now : at_of last (child_place used b) ≡ body_word n = at_set_same first r (child_place used b) w (sym is_r) (omega (arith, len)) ∙ is_w in
+    let elsewhere : (i : ℕ) → i ≢ q → i ≢ r → at_of last i ≡ at_of longer i = λ i d e. at_set_other first r i w e ∙ at_set_other longer q i v d in
+    let key_now = elsewhere (key_place used) (λ h. omega arith) (λ h. omega arith) ∙ cell.keyed in
+    let a_now = at_set_other first r (child_place used a) w (λ h. apart (omega arith))
+    ∙ at_set_same longer q (child_place used a) v (sym is_q) (omega (arith, cell.len)) ∙ is_v in
+    let b_now = at_set_same first r (child_place used b) w (sym is_r) (omega (arith, len)) ∙ is_w in
     let others : (j : ℕ) → j < 8 → j ≢ a → j ≢ b → at_of last (child_place used j) ≡ 0 = λ j l f g.
-    at_set_other first r (child_place used j) w (λ h. g (omega arith)) ∙ at_set_other longer q (child_place used j) v (λ h. f (omega arith)) ∙ cell.empty j l in
+    elsewhere (child_place used j) (λ h. f (omega arith)) (λ h. g (omega arith)) ∙ cell.empty j l in
     stands_same (site_at sites) (at_of last) (cell_word used) key (Only used) (IsTaken used (used + 1)) (IsOneOf x n) (IsOneOf x n)
     (λ c. ((λ e. (omega arith, omega arith)), (λ h. omega (arith, h.0, h.1))))
     (λ m. ((λ h. h), (λ h. h)))

@@ -16,20 +16,20 @@ few_so_far cell child k cells at is small e =
 pub extent_of_cell-overflow_add-level : goal.extent_of_cell-overflow_add-level
 extent_of_cell-overflow_add-level t c = omega (
   arith,
-  child_height c.args.cell c.args.cell c.child.result c.loop-k.k c.requires.cell c.child.ensures
+  child_height _ _ c.child.result c.loop-k.k c.requires.cell c.child.ensures
       c.loop-k-test.true,
 )
 
 pub extent_of_cell-extent_of-child-requires : goal.extent_of_cell-extent_of-child-requires
 extent_of_cell-extent_of-child-requires t c =
-    let less = child_height c.args.cell c.args.cell c.child.result c.loop-k.k c.requires.cell c.child.ensures c.loop-k-test.true in
-    let few = few_so_far c.args.cell c.child.result c.loop-k.k c.loop-k.cells c.requires.cell c.child.ensures c.loop-k-test.true c.loop-k.invariant.cells in
+    let less = child_height _ _ c.child.result c.loop-k.k c.requires.cell c.child.ensures c.loop-k-test.true in
+    let few = few_so_far _ c.child.result c.loop-k.k _ c.requires.cell c.child.ensures c.loop-k-test.true c.loop-k.invariant.cells in
     (omega (arith, less), (omega (arith, few), omega (arith, less)))
 
 pub extent_of_cell-overflow_add-cells : goal.extent_of_cell-overflow_add-cells
 extent_of_cell-overflow_add-cells t c = omega (
   arith,
-  few_so_far c.args.cell c.child.result c.loop-k.k c.loop-k.cells c.requires.cell c.child.ensures c.loop-k-test.true c.loop-k.invariant.cells,
+  few_so_far _ c.child.result c.loop-k.k _ c.requires.cell c.child.ensures c.loop-k-test.true c.loop-k.invariant.cells,
   c.extent_of-child.ensures.cells,
 )
 

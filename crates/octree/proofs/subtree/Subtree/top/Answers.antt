@@ -7,19 +7,18 @@ use Rattle.octree.proofs.Subtrees.{spot_at, spot_small, top_body, top_cell, top_
 use Rattle.octree.proofs.subtree.Subtree.top.Goals as goal
 
 pub named_by-requires : goal.named_by-requires
-named_by-requires c = spot_small (spot_at c.self.inside.octree.now c.self.inside.word) c.self.invariant
+named_by-requires c = spot_small _ c.self.invariant
 
 pub returns-in-Nothing : goal.returns-in-Nothing
 returns-in-Nothing c =
-    subst (λ (s : Spot). IsTopOf s Nothing) c.self.view_is
-    (top_none (spot_at c.self.inside.octree.now c.self.inside.word) c.in-Nothing.ensures)
+    subst (λ (s : Spot). IsTopOf s Nothing) c.self.view_is (top_none _ c.in-Nothing.ensures)
 
 pub returns-in-Body : goal.returns-in-Body
 returns-in-Body c =
     subst (λ (s : Spot). IsTopOf s (Body c.in-Body.n)) c.self.view_is
-    (top_body (spot_at c.self.inside.octree.now c.self.inside.word) c.in-Body.n c.self.invariant c.in-Body.ensures)
+    (top_body _ c.in-Body.n c.self.invariant c.in-Body.ensures)
 
 pub returns-in-Cell : goal.returns-in-Cell
 returns-in-Cell c =
     subst (λ (s : Spot). IsTopOf s (Cell (spot_at c.self.inside.octree.now (cell_word c.in-Cell.c)))) c.self.view_is
-    (top_cell (spot_at c.self.inside.octree.now c.self.inside.word) c.in-Cell.c c.self.invariant c.in-Cell.ensures)
+    (top_cell _ c.in-Cell.c c.self.invariant c.in-Cell.ensures)
