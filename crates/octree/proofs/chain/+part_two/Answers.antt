@@ -34,17 +34,16 @@ overflow_add-inner t c = omega (
 pub part_two-requires : goal.part_two-requires
 part_two-requires t c =
     let d = goal.at.part_two-requires t c in
-    let words = c.add_cell.new.words.items in
     let cell = c.add_cell.ensures.added in
-    let pair = pair_deeper c.args.points.now c.args.x c.args.n c.args.cube.key c.args.cube.level c.octant-b.result c.requires.rule c.requires.pair
+    let pair = pair_deeper _ _ _ _ _ c.octant-b.result c.requires.rule c.requires.pair
     (sym c.if-a-b.true ∙ octant_x t d.After-add_cell) (octant_n t d.After-add_cell) in
-    let unlocked = unlocked_in_cell words (c.args.used + 1) c.args.used c.octant-b.result c.place_of_child.result c.word_of_cell.result cell.unlocked
+    let unlocked = unlocked_in_cell c.add_cell.new.words.items _ _ c.octant-b.result c.place_of_child.result c.word_of_cell.result cell.unlocked
     c.place_of_child.ensures (omega (arith, c.octant-b.ensures.small)) in (
       omega (arith, pair.shallow),
       (
         omega (arith, c.requires.few, pair.shallow),
         (
-          set_length words c.place_of_child.result c.word_of_cell.result ∙ cell.len,
+          set_length _ c.place_of_child.result c.word_of_cell.result ∙ cell.len,
           (
             omega (arith, c.requires.room, c.add_cell.ensures.room, pair.shallow),
             (
@@ -76,16 +75,15 @@ returns-then-a-b-clause-stands t c =
 
 pub returns-else-a-b-clause-kept : goal.returns-else-a-b-clause-kept
 returns-else-a-b-clause-kept t c = λ i l.
-    at_set_other _ c.place_of_child-else-a-b-2.result i c.word_of_body-else-a-b.result (λ e. omega (arith, e, c.place_of_child-else-a-b-2.ensures))
-    ∙ at_set_other _ c.place_of_child-else-a-b.result i c.word_of_body.result (λ e. omega (arith, e, c.place_of_child-else-a-b.ensures))
+    at_set_other _ _ i _ (λ e. omega (arith, e, c.place_of_child-else-a-b-2.ensures))
+    ∙ at_set_other _ _ i _ (λ e. omega (arith, e, c.place_of_child-else-a-b.ensures))
     ∙ c.add_cell.ensures.added.kept i l
 
 pub returns-else-a-b-clause-unlocked : goal.returns-else-a-b-clause-unlocked
 returns-else-a-b-clause-unlocked t c =
-    unlocked_in_cell _ (c.args.used + 1) c.args.used c.octant-b.result c.place_of_child-else-a-b-2.result c.word_of_body-else-a-b.result
-    (unlocked_in_cell _ (c.args.used + 1) c.args.used c.octant-a.result c.place_of_child-else-a-b.result c.word_of_body.result
-    c.add_cell.ensures.added.unlocked c.place_of_child-else-a-b.ensures
-    (omega (arith, c.octant-a.ensures.small))) c.place_of_child-else-a-b-2.ensures (omega (arith, c.octant-b.ensures.small))
+    unlocked_in_cell _ _ _ c.octant-b.result _ _ (unlocked_in_cell _ _ _ c.octant-a.result _ _ c.add_cell.ensures.added.unlocked
+    c.place_of_child-else-a-b.ensures (omega (arith, c.octant-a.ensures.small))) c.place_of_child-else-a-b-2.ensures
+    (omega (arith, c.octant-b.ensures.small))
 
 pub returns-else-a-b-clause-stands : goal.returns-else-a-b-clause-stands
 returns-else-a-b-clause-stands t c =
