@@ -41,12 +41,10 @@ none_done : (c : goal.After-self-1) → IsDone c.args.points.now c.args.n c.args
     (slice_set c.self.inside.words.items c.find_place-end.result.place c.word_of_body.result) c.self.inside.used)
 none_done c =
     let d = goal.at.invariant_of-self c in
-    let end = c.find_place-end in
-    let after = slice_set c.self.inside.words.items end.result.place c.word_of_body.result in
+    let end = c.find_place-end.ensures in
+    let after = slice_set c.self.inside.words.items c.find_place-end.result.place c.word_of_body.result in
     subst (λ (o : Stored). IsDone c.args.points.now c.args.n o (with_words (here d.After-find_place-end) after c.self.inside.used)) c.self.view_is
-    (empty_case c.args.points.now (here d.After-find_place-end) c.args.n end.result.place end.result.level c.word_of_body.result (can d.After-find_place-end)
-    end.ensures.there end.ensures.inside
-    end.ensures.shallow (empty_end d.In-None) c.word_of_body.ensures)
+    (empty_case _ _ _ _ _ _ (can d.After-find_place-end) end.there end.inside end.shallow (empty_end d.In-None) c.word_of_body.ensures)
 
 -- the octree with the cells that part two bodies in place of one
 some_done : (c : goal.After-self-in-Some-2-1) → IsDone c.args.points.now c.args.n c.args.self.now
@@ -62,9 +60,7 @@ some_done c =
     let key : c.key_at.result ≡ key_of (site_at c.args.points.now c.args.n) end.result.level = c.key_at.ensures
     ∙ ap (λ s. key_of s end.result.level) c.at.ensures.value in
     subst (λ (o : Stored). IsDone c.args.points.now c.args.n o (with_words (here d.After-find_place-end) after part.result)) c.self.view_is
-    (parted_case c.args.points.now (here d.After-find_place-end) part.new.words.items c.args.n end.result.place end.result.level c.in-Some.x part.result
-    c.word_of_cell.result
-    (can d.After-find_place-end) end.ensures.there end.ensures.inside (body_end d.In-Some)
+    (parted_case _ _ part.new.words.items _ _ _ c.in-Some.x part.result _ (can d.After-find_place-end) end.ensures.there end.ensures.inside (body_end d.In-Some)
     (record {
       len = part.ensures.len;
       kept = part.ensures.kept;
@@ -93,9 +89,7 @@ pub part_two-next-requires-clause-pair : goal.part_two-next-requires-clause-pair
 part_two-next-requires-clause-pair c =
     let d = goal.at.part_two-next-requires-clause-pair c in
     let end = c.find_place-end in
-    body_case c.args.points.now (here d.After-find_place-end) c.args.n end.result.place end.result.level c.key_at.result c.in-Some.x
-    (can d.After-find_place-end) end.ensures.there
-    (body_end d.In-Some) end.ensures.shallow (c.key_at.ensures ∙ ap (λ s. key_of s end.result.level) c.at.ensures.value)
+    body_case _ _ _ _ _ _ _ (can d.After-find_place-end) end.ensures.there (body_end d.In-Some) end.ensures.shallow (c.key_at.ensures ∙ ap (λ s. key_of s end.result.level) c.at.ensures.value)
 
 pub invariant_of-self-in-Some : goal.invariant_of-self-in-Some
 invariant_of-self-in-Some c = ((some_done c).stored, omega (arith, c.self.invariant.1, c.part_two-next.ensures.room))
