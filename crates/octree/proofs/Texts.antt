@@ -1,40 +1,15 @@
 -- The text of a tree, put child by child.
-use Rattle.std.proofs.Common.{ℕ, ◌+◌, ◌<◌, ◌≡◌, zero, suc, refl, sym, ◌∙◌, ap, subst, arith, List, [], ◌∷◌, ◌++◌, inl, inr, add-one, append_assoc, append-nil}
+use Rattle.std.proofs.Common.{ℕ, ◌+◌, ◌-◌, ◌<◌, ◌≡◌, zero, suc, refl, sym, ◌∙◌, ap, subst, arith, List, [], ◌∷◌, ◌++◌, add-one}
 use Rattle.std.proofs.Common.{decimal, Option, Result}
-use Rattle.std.proofs.lemmas.Bool.{cases_lt}
 use Rattle.bh_model.proofs.Lists.{joined}
 use Rattle.bh_model.proofs.Trees.{text-body, text-cell, text-empty}
 use Rattle.bh_model.specs.Trees.{Body, Empty, Tree, cell_of, text}
 use Rattle.bh_outside.proofs.Texts.{puts_fail, puts_failed, puts_more, puts_then}
 use Rattle.bh_outside.specs.Text.{Puts, PutsAll, PutsFront}
 
--- what joins the lists after some of them
-record HasRest (g : ℕ → List ℕ) (m k : ℕ) : Type 0 where
-  rest : List ℕ
-  is : joined g m ≡ joined g k ++ rest
-
--- the lists joined are those before one, and the rest
-joined_split : (g : ℕ → List ℕ) (m k : ℕ) → k < suc m → HasRest g m k
-joined_split g zero k l = record { rest = []; is = ap (joined g) (let e : 0 ≡ k = omega arith in e) ∙ sym (append-nil (joined g k)) }
-joined_split g (suc m) k l = elim (cases_lt k (suc m)) [
-  | inl r ↦ let f = joined_split g m k r in record { rest = f.rest ++ g m; is = ap (λ y. y ++ g m) f.is ∙ append_assoc (joined g k) f.rest (g m) }
-  | inr r ↦ record { rest = []; is = ap (joined g) (let e : suc m ≡ k = omega arith in e) ∙ sym (append-nil (joined g k)) }
-]
-
 -- the text of a cell as far as its first k children
 unfoldable pub texts : (ℕ → Tree) → ℕ → List ℕ
 texts f k = 40 ∷ joined (λ j. text (f j)) k
-
--- the text of a cell is that of its first k children and a rest
-record TextSplits (f : ℕ → Tree) (k : ℕ) : Type 0 where
-  rest : List ℕ
-  is : text (cell_of f) ≡ texts f k ++ rest
-
-text_splits : (f : ℕ → Tree) (k : ℕ) → k < 9 → TextSplits f k
-unfolding texts
-text_splits f k l =
-    let s = joined_split (λ j. text (f j)) 8 k l in
-    record { rest = s.rest ++ (41 ∷ []); is = text-cell f ∙ ap (λ y. (40 ∷ y) ++ (41 ∷ [])) s.is ∙ append_assoc (texts f k) s.rest (41 ∷ []) }
 
 pub text_none : (t : Tree) → t ≡ Empty → text t ≡ 46 ∷ []
 text_none t e = ap text e ∙ text-empty
@@ -56,11 +31,18 @@ texts_next f child k a b c u v w e first second =
     (puts_more a b c u v w (texts f k) (text child) first second)
 
 -- a front of the text as far as some children is a front of the whole text
+texts_upto : (f : ℕ → Tree) (t : Tree) (left k : ℕ) (a b : Option (List ℕ)) (u : List ℕ) → t ≡ cell_of f → k + left ≡ 8 → PutsFront a b u (texts f k)
+    → PutsFront a b u (text t)
+unfolding texts
+texts_upto f t zero k a b u e all h =
+    let last : k ≡ 8 = omega (arith, all) in
+    subst (λ (y : List ℕ). PutsFront a b u y) (ap (λ n. (40 ∷ joined (λ j. text (f j)) n) ++ (41 ∷ [])) last ∙ sym (ap text e ∙ text-cell f))
+    (puts_failed a b u (texts f k) (41 ∷ []) h)
+texts_upto f t (suc left) k a b u e all h = texts_upto f t left (suc k) a b u e (omega (arith, all)) (puts_failed a b u (texts f k) (text (f k)) h)
+
 pub texts_front : (f : ℕ → Tree) (t : Tree) (k : ℕ) (a b : Option (List ℕ)) (u : List ℕ) → t ≡ cell_of f → k < 9 → PutsFront a b u (texts f k)
     → PutsFront a b u (text t)
-texts_front f t k a b u e l h =
-    let s = text_splits f k l in
-    subst (λ (y : List ℕ). PutsFront a b u y) (sym (ap text e ∙ s.is)) (puts_failed a b u (texts f k) s.rest h)
+texts_front f t k a b u e l h = texts_upto f t (8 - k) k a b u e (omega (arith, l)) h
 
 -- a child whose text was put in part
 pub texts_fail : (f : ℕ → Tree) (child t : Tree) (k : ℕ) (a b c : Option (List ℕ)) (u v : List ℕ) → t ≡ cell_of f → k < 8 → child ≡ f k

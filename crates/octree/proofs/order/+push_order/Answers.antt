@@ -1,6 +1,6 @@
 use Rattle.std.proofs.Common.{arith}
 use Rattle.bh_model.proofs.Folds.{order_one, orders_all}
-use Rattle.octree.specs.Spot.{child_under, tree_under}
+use Rattle.octree.specs.Spot.{child_under}
 use Rattle.octree.proofs.order.+push_order.Goals as goal
 
 pub returns-in-Ok : goal.returns-in-Ok
