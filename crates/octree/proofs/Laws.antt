@@ -5,7 +5,7 @@ use Rattle.bh_model.specs.Bodies.{IsIn}
 use Rattle.bh_model.specs.Trees.{Tree, order}
 use Rattle.octree.specs.Spot.{Spot, child_under, tree_under}
 use Rattle.octree.specs.Subtree.{IsBodyAt, IsCellAt, IsChildOf}
-pub use Rattle.octree.proofs.Subtrees.{cell_height, child_height, child_octree}
+pub use Rattle.octree.proofs.Subtrees.{child_height, child_octree}
 -- two bodies in one cube
 pub use Rattle.octree.proofs.Chains.{octant_under, pair_cube, pair_deeper}
 

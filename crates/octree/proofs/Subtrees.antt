@@ -356,7 +356,3 @@ child_octree s cell child k at is = is.octree ∙ ap (λ (x : Spot). x.octree) a
 pub child_height : (s cell child : Spot) (k : ℕ) → IsCellAt s cell → IsChildOf cell k child → k < 8 → height (tree_under child) < height (tree_under s)
 child_height s cell child k at is small = subst (λ (t : Tree). height (tree_under child) < height t) (sym at.tree)
     (subst (λ (t : Tree). height t < height (cell_of (child_under cell))) (sym is.tree) (height_falls (child_under cell) k small))
-
--- and the tree of a cell is not flat
-pub cell_height : (s cell : Spot) → IsCellAt s cell → 1 ≤ height (tree_under s)
-cell_height s cell at = omega (arith, height_falls (child_under cell) 0 (omega arith), ap height at.tree)
