@@ -1,5 +1,6 @@
 -- Pulls are put at their bodies' numbers.
-use Rattle.std.proofs.Common.{ℕ, ◌+◌, ◌<◌, ◌≤◌, ◌≡◌, List, All, Any, Contains, length, [], ◌++◌, take, drop, append-nil, get_or, set, slice_index, sym, ap, ◌∙◌, subst, arith, inl, inr, below_more}
+use Rattle.std.proofs.Common.{ℕ, ◌+◌, ◌<◌, ◌≤◌, ◌≡◌, List, All, Any, Contains, length, [], ◌++◌, take, drop, append-nil, get_or, set, slice_index, sym, ap}
+use Rattle.std.proofs.Common.{◌∙◌, subst, arith, inl, inr, below_more}
 use Rattle.std.proofs.Common.{get_or-set_other, get_or-set_same}
 use Rattle.std.proofs.lemmas.Bool.{cases_eq}
 use Rattle.std.proofs.lemmas.List.{drop_all, take_all, ext_get_or, get_or-map, length-map}
@@ -29,7 +30,8 @@ pub record ArePut (law : PullLaw) (m : Matter) (nodes : List WalkNode) (places :
   pub kept : (n : ℕ) → IsPlaced law m nodes places before n → IsPlaced law m nodes places after n
 
 -- one right pull makes no other wrong
-placed_set : (law : PullLaw) (m : Matter) (nodes : List WalkNode) (places : List ℕ) (list : List Pull) (n : ℕ) (p : Pull) → n < length list → p ≡ walked law (m.site n) (slice_index places n) 0 nodes 0
+placed_set : (law : PullLaw) (m : Matter) (nodes : List WalkNode) (places : List ℕ) (list : List Pull) (n : ℕ) (p : Pull) → n < length list
+    → p ≡ walked law (m.site n) (slice_index places n) 0 nodes 0
     → (k : ℕ) → IsPlaced law m nodes places list k → IsPlaced law m nodes places (set list n p) k
 placed_set law m nodes places list n p within e k h =
     elim (cases_eq k n) [
@@ -37,8 +39,10 @@ placed_set law m nodes places list n p within e k h =
       | inr other ↦ get_or-set_other list n k p no_pull other ∙ h
     ]
 
-pub put_more : (law : PullLaw) (bodies : List Body) (nodes : List WalkNode) (places : List ℕ) (before after : List Pull) (zone : List ℕ) (i n : ℕ) (body : Body) (p : Pull)
-    → ArePut law (matter_of bodies) nodes places before after zone i → n ≡ get_or zone i 0 → n < length bodies → length after ≡ length bodies → body ≡ body_at bodies n
+pub put_more : (law : PullLaw) (bodies : List Body) (nodes : List WalkNode) (places : List ℕ) (before after : List Pull) (zone : List ℕ) (i n : ℕ)
+    (body : Body) (p : Pull)
+    → ArePut law (matter_of bodies) nodes places before after zone i → n ≡ get_or zone i 0 → n < length bodies → length after ≡ length bodies
+    → body ≡ body_at bodies n
     → p ≡ walked law body.at (slice_index places n) 0 nodes 0 → ArePut law (matter_of bodies) nodes places before (set after n p) zone (i + 1)
 put_more law bodies nodes places before after zone i n body p put is within long found e =
     let m : Matter = matter_of bodies in
@@ -54,7 +58,8 @@ put_more law bodies nodes places before after zone i n body p put is within long
 
 -- a list in which each pull stands at its body's number
 pub all_placed : (law : PullLaw) (m : Matter) (count : ℕ) (tree : Tree) (nodes : List WalkNode) (places : List ℕ) (list : List Pull) → length list ≡ count
-    → ((n : ℕ) → n < count → IsPlaced law m nodes places list n) → ((n : ℕ) → n < count → walked law (m.site n) (slice_index places n) 0 nodes 0 ≡ pull law m n tree)
+    → ((n : ℕ) → n < count → IsPlaced law m nodes places list n) → ((n : ℕ) → n < count
+    → walked law (m.site n) (slice_index places n) 0 nodes 0 ≡ pull law m n tree)
     → list ≡ pulls law m count tree
 all_placed law m count tree nodes places list long placed right =
     let one : ℕ → Pull = λ n. pull law m n tree in

@@ -55,7 +55,8 @@ share-is scale divisor rate (suc gap) unit slack is sure some =
     let q : ℕ = rate * suc gap / unit in
     let split : q * unit + rate * suc gap % unit ≡ rate * suc gap = div-add-mod' (rate * suc gap) unit in
     let below : q * divisor ≤ scale * suc gap = share-low scale divisor rate (suc gap) unit q is.low (omega arith) some in
-    let above : scale * suc gap < (q + 1) * divisor = share-high scale divisor rate (suc gap) unit slack q (omega (arith, is.high)) (omega arith) (omega arith) in
+    let above : scale * suc gap < (q + 1) * divisor = share-high scale divisor rate (suc gap) unit slack q (omega (arith, is.high)) (omega arith)
+    (omega arith) in
     quotient-is (scale * suc gap) divisor q below (omega arith)
 
 -- a share upwards is the coordinate of a term

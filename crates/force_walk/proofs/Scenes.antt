@@ -116,7 +116,8 @@ scene_walk law bodies o least places n scene is found within =
     } in
     ap (λ l. walked law (m.site n) place 0 l 0) (sym (append-nil nodes))
     ∙ walked_flat law m least (length bodies) n place is (bodies_apart bodies n scene.rule within) (λ k l. scene.rule.massive k nobody l)
-    (λ k l. scene.rule.in_cube k origin (omega (arith, sites_long bodies))) within 21 1 0 (tree_of o) [] (omega arith) (scene_stands bodies o scene) (scene_lies bodies o scene) sees
+    (λ k l. scene.rule.in_cube k origin (omega (arith, sites_long bodies))) within 21 1 0 (tree_of o) [] (omega arith) (scene_stands bodies o scene)
+    (scene_lies bodies o scene) sees
     ∙ ap (add_pull (pull law m n (tree_of o))) (walked_end law (m.site n) place (0 + length (owners (tree_of o))))
     ∙ add_to_none (pull law m n (tree_of o))
 

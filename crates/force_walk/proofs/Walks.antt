@@ -74,13 +74,15 @@ walked_past law from place at (node ∷ rest) (suc past) =
     walked_past law from place (at + 1) rest past
     ∙ ap (λ k. walked law from place k (drop past rest) 0) (let e : at + 1 + past ≡ at + suc past = omega arith in e)
 
-pub walked_opened : (law : PullLaw) (from : Site) (place at : ℕ) (node : WalkNode) (rest : List WalkNode) → is_opened (squared_distance from node.at) place at node ≡ true
+pub walked_opened : (law : PullLaw) (from : Site) (place at : ℕ) (node : WalkNode) (rest : List WalkNode)
+    → is_opened (squared_distance from node.at) place at node ≡ true
     → walked law from place at (node ∷ rest) 0 ≡ walked law from place (at + 1) rest 0
 unfolding walked
 walked_opened law from place at node rest e = rw e
 
 -- and a walk that takes a node goes past all of its nodes
-pub walked_taken : (law : PullLaw) (from : Site) (place at : ℕ) (node : WalkNode) (rest : List WalkNode) → is_opened (squared_distance from node.at) place at node ≡ false
+pub walked_taken : (law : PullLaw) (from : Site) (place at : ℕ) (node : WalkNode) (rest : List WalkNode)
+    → is_opened (squared_distance from node.at) place at node ≡ false
     → 1 ≤ node.skip
     → walked law from place at (node ∷ rest) 0
     ≡ add_pull (term law node.mass from node.at) (walked law from place (at + node.skip) (drop (node.skip - 1) rest) 0)
@@ -124,7 +126,8 @@ way_starts law from place nodes short wide e f = record {
 
 -- a node is opened
 pub way_opens : (law : PullLaw) (from : Site) (place : ℕ) (nodes : List WalkNode) (at : ℕ) (short : ShortPull) (wide : Pull) (node : WalkNode)
-    → IsOnTheWay law from place nodes at short wide → at < length nodes → node ≡ get_or nodes at node → is_opened (squared_distance from node.at) place at node ≡ true
+    → IsOnTheWay law from place nodes at short wide → at < length nodes → node ≡ get_or nodes at node
+    → is_opened (squared_distance from node.at) place at node ≡ true
     → IsOnTheWay law from place nodes (at + 1) short wide
 way_opens law from place nodes at short wide node way within e opened =
     let next : drop at nodes ≡ node ∷ drop (at + 1) nodes = drop_more nodes at node within ∙ ap (λ n. n ∷ drop (at + 1) nodes) (sym e) in
@@ -162,7 +165,8 @@ way_takes law from place nodes at short next wide more node way within e long ta
     }
 
 -- the sum at the end is the whole
-pub way_ends : (law : PullLaw) (from : Site) (place : ℕ) (nodes : List WalkNode) (at : ℕ) (short : ShortPull) (wide : Pull) → IsOnTheWay law from place nodes at short wide
+pub way_ends : (law : PullLaw) (from : Site) (place : ℕ) (nodes : List WalkNode) (at : ℕ) (short : ShortPull) (wide : Pull)
+    → IsOnTheWay law from place nodes at short wide
     → length nodes ≤ at → sum_of short wide ≡ walked law from place 0 nodes 0
 way_ends law from place nodes at short wide way past =
     sym (add_to_none (sum_of short wide))

@@ -50,7 +50,8 @@ pub term_to-requires-then-takes_whole-clause-apart : goal.term_to-requires-then-
 term_to-requires-then-takes_whole-clause-apart t c =
     omega (
       arith,
-      whole_apart c.args.view.now.law.now c.args.down c.args.key c.args.view.now.from c.centre-centre.result (sym c.takes_whole.ensures ∙ c.if-takes_whole.true),
+      whole_apart c.args.view.now.law.now c.args.down c.args.key c.args.view.now.from c.centre-centre.result
+          (sym c.takes_whole.ensures ∙ c.if-takes_whole.true),
     )
 
 pub overflow_mul-child_key : goal.overflow_mul-child_key
@@ -89,7 +90,8 @@ part t c =
 
 fits : (t : _) (c : After-pull_below t) → Fits c.loop-k.sum c.pull_below.result
 fits t c =
-    parts_fit c.in-Cell.ensures c.requires.cube c.child.ensures c.loop-k-test.true c.args.view.now.law.now c.args.view.now.n c.args.key c.loop-k.sum c.pull_below.result
+    parts_fit c.in-Cell.ensures c.requires.cube c.child.ensures c.loop-k-test.true c.args.view.now.law.now c.args.view.now.n c.args.key c.loop-k.sum
+    c.pull_below.result
     c.requires.view.rule
     (bodies_apart c.args.view.now.bodies.now c.args.view.now.n c.requires.view.bodies c.requires.view.within) c.loop-k.invariant (part t c)
 
