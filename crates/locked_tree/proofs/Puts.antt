@@ -1,26 +1,26 @@
 -- Facts between the steps of an insertion under locks.
-use Rattle.std.proofs.Common.{◌≡◌, ◌≢◌, ℕ, ◌+◌, ◌*◌, ◌-◌, ◌^◌, ◌<◌, ◌≤◌, List, [], ◌∷◌, ◌++◌, length, take, set, sym, refl, ap, length-append, ◌∙◌, subst, inl, inr, arith}
+use Rattle.std.proofs.Common.{◌≡◌, ◌≢◌, ℕ, ◌+◌, ◌*◌, ◌-◌, ◌^◌, ◌<◌, ◌≤◌, List, [], ◌∷◌, ◌++◌, length, take, set, sym, refl, ap, length-append, ◌∙◌, subst, inl, arith}
 use mathlib.Core.Logic.{dite}
 use native.Mathlib.Decide.{ℕ_discrete}
 use Rattle.std.proofs.lemmas.List.{length-take-le, take_all, take_more_set}
-use Rattle.octant_code.specs.declared.limits.TheConstants.{LEVELS, MOST_BODIES}
+use Rattle.octant_code.specs.declared.limits.TheConstants.{LEVELS}
 use Rattle.octant_code.specs.Space.{Site, key_of, octant_of}
 use Rattle.octant_code.specs.Points.{site_at, ArePoints}
 use Rattle.octant_code.proofs.Keys.{key-suc, key-zero}
 use Rattle.tree_rule.specs.declared.words.TheConstants.{CELLS_OF_ONE, MOST_CELLS}
-use Rattle.tree_rule.specs.Words.{body_word, cell_word, child_place, lock_place}
+use Rattle.tree_rule.specs.Words.{child_place, lock_place}
 use Rattle.tree_rule.proofs.Laws.{ACell, NoBody, OneBody, WordIs, word_is}
 use Rattle.octree.specs.Stored.{word_count}
 use Rattle.tree_passes.specs.declared.view.TheConstants.{POOL_PLACE, ROOT_LOCK}
 use Rattle.tree_passes.specs.declared.view.View.{View}
 use Rattle.tree_passes.specs.Counting.{same, times, Has, without}
 use Rattle.tree_passes.specs.Locks.{IsLock, IsLockOf, OfChild, OfRoot, CellsLock, RootsLock}
-use Rattle.tree_passes.specs.Looks.{FoundBody, FoundCell, Looked, Tells}
+use Rattle.tree_passes.specs.Looks.{Looked, Tells}
 use Rattle.tree_passes.specs.Making.{IsReady}
-use Rattle.tree_passes.specs.Passes.{after_publication, cell_note, body_note, KnowsPlace}
+use Rattle.tree_passes.specs.Passes.{after_publication, KnowsPlace}
 use Rattle.tree_passes.specs.Plays.{IsDrawn, LookedUnder}
-use Rattle.tree_passes.specs.Turns.{Descends, IsBelow, IsFound, IsInserted, IsStill, IsThere}
-use Rattle.tree_passes.proofs.Laws.{descends_from, found_learnt, inserted_published, place_below, place_still, same-eq, same-ne, still_looked, still_on, times-append}
+use Rattle.tree_passes.specs.Turns.{Descends, IsFound, IsInserted, IsStill, IsThere}
+use Rattle.tree_passes.proofs.Laws.{descends_from, found_learnt, inserted_published, place_below, place_still, same-eq, same-ne, still_looked, times-append}
 use Rattle.locked_tree.specs.declared.insert.Spot.{Spot}
 use Rattle.locked_tree.specs.declared.insert.Turn.{Turn}
 use Rattle.locked_tree.specs.declared.insert.Turn.TheVariants as turn
@@ -95,6 +95,19 @@ at_on v w words sites n s points long todo known at = record {
   lock_inside = at.lock_inside;
   lock_is = at.lock_is;
 }
+
+-- what is left where a lock was taken
+pub locked_parts : (v w : View) (locks : List ℕ) → w ≡ record v { locks = locks }
+    → (w.locks ≡ locks) × (w.quota ≡ v.quota) × (length w.memory ≡ length v.memory)
+locked_parts v w locks e = (ap (λ (z : View). z.locks) e, ap (λ (z : View). z.quota) e, ap (λ (z : View). length z.memory) e)
+
+-- where it was given up
+pub unlocked_parts : (v w : View) → w ≡ record v { locks = []; under = [] } → (w.locks ≡ []) × (w.under ≡ [])
+unlocked_parts v w e = (ap (λ (z : View). z.locks) e, ap (λ (z : View). z.under) e)
+
+-- and after a plain load
+pub looked_parts : (v : View) (i key value : ℕ) (w : View) → Looked v i key value w → (w.locks ≡ v.locks) × (w.under ≡ v.under)
+looked_parts v i key value w l = (ap (λ (z : View). z.locks) l.view, ap (λ (z : View). z.under) l.view)
 
 -- where it took the lock
 pub at_locked : (v w : View) (locks : List ℕ) (words : ℕ) (sites : List Site) (n : ℕ) (s : Spot) → w ≡ record v { locks = locks } → IsAt v words sites n s
@@ -260,9 +273,10 @@ leads_kept v w n from spare key (turn.Done used) p = (p.1.locks, p.1.long)
 leads_kept v w n from spare key (turn.Below d) p = (p.still.locks, p.still.long)
 
 -- and then it is given up
-pub leads_unlocked : (u v w : View) (lock n : ℕ) (from : Pool) (spare : List ℕ) (key : ℕ) (t : Turn) → u.locks ≡ []
-    → LeadsTo (record u { locks = lock ∷ [] }) v n from spare key t → w ≡ record v { locks = []; under = [] } → LeadsTo u w n from spare key t
-leads_unlocked u v w lock n from spare key t free p e = subst (λ (z : View). LeadsTo u z n from spare key t) (sym e) (unlocked t p)
+pub leads_unlocked : (u l v w : View) (lock n : ℕ) (from : Pool) (spare : List ℕ) (key : ℕ) (t : Turn) → u.locks ≡ []
+    → l ≡ record u { locks = lock ∷ [] } → LeadsTo l v n from spare key t → w ≡ record v { locks = []; under = [] } → LeadsTo u w n from spare key t
+leads_unlocked u l v w lock n from spare key t free taken p e =
+    subst (λ (z : View). LeadsTo u z n from spare key t) (sym e) (unlocked t (subst (λ (z : View). LeadsTo z v n from spare key t) taken p))
   where
     unlocked : (t : Turn) → LeadsTo (record u { locks = lock ∷ [] }) v n from spare key t → LeadsTo u (record v { locks = []; under = [] }) n from spare key t
     unlocked (turn.Done used) q = (

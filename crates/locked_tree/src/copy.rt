@@ -1,9 +1,8 @@
 //! The words of a closed table, copied back into an octree's.
 
-ghost use Rattle.std.specs.Prelude.{◌≡◌, ℕ, [], ◌+◌, ◌≤◌, length};
+ghost use Rattle.std.specs.Prelude.{◌≡◌, ℕ, ◌+◌, ◌≤◌, length};
 ghost use Rattle.std.specs.Slots.{slots_items, slots_len, IsFull};
 ghost use Rattle.octree.specs.Stored.{IsBlankFrom, word_count};
-ghost use Rattle.tree_rule.specs.declared.words.TheConstants.{MOST_CELLS};
 ghost use Rattle.tree_passes.specs.declared.view.Writing.TheVariants.{UnderLocks};
 ghost use Rattle.tree_passes.specs.Counting.{times};
 ghost use Rattle.tree_passes.specs.Opening.{opening_of};

@@ -21,13 +21,22 @@ use crate::tree::Pool;
 use octant_code::{LEVELS, Point, Points, key_at, octant};
 use std::hint;
 use std::sync::Wait;
+use std::thread::yield_now;
 use tree_passes::{
     Cube, Pass, ROOT_LOCK, Words, cells_to_part, draw_cell, load, load_locked, part_two,
     store_locked, try_lock, unlock,
 };
-use tree_rule::{Named, named_by, place_of_child, place_of_lock, word_of_body, word_of_cell};
+use tree_rule::{
+    CELLS_OF_ONE, Named, named_by, place_of_child, place_of_lock, word_of_body, word_of_cell,
+};
 
-// A published word on the way down: its place, that of its lock, and the level of its cube.
+// How often a lock is tried before other threads are let run.
+const TRIES: u32 = 64;
+
+// The most cells that are drawn at once.
+const MOST_DRAWN: usize = CELLS_OF_ONE as usize;
+
+/// A published word on the way down: its place, that of its lock, and the level of its cube.
 #[derive(Clone, Copy, Drop)]
 pub struct Spot {
     pub word: usize,
@@ -35,8 +44,8 @@ pub struct Spot {
     pub level: u32,
 }
 
-// What a visit of a published word leads to: the body is in, with so many of the spare cells, or the
-// way goes on below a cell.
+/// What a visit of a published word leads to: the body is in, with so many of the spare cells, or the
+/// way goes on below a cell.
 #[derive(Clone, Copy, Drop)]
 pub enum Turn {
     Done(usize),
@@ -56,16 +65,19 @@ fn take_lock<R: Wait>(rt: &R, table: &Words, pass: &mut Pass, lock: usize)
     ensures taken { pass.new.me.0 ≡ record pass.old.me.0 { locks = lock ∷ [] } }
 {
     for _ in rt.forever() {
-        if try_lock(table, pass, lock) {
-            return;
+        for _ in 0..TRIES {
+            if try_lock(table, pass, lock) {
+                return;
+            }
+            hint::spin_loop();
         }
-        hint::spin_loop();
+        yield_now();
     }
     unreachable!()
 }
 
 /// Draws so many cells from the shared pool.
-fn draw_cells(table: &Words, pass: &mut Pass, count: usize) -> [u32; 21]
+fn draw_cells(table: &Words, pass: &mut Pass, count: usize) -> [u32; MOST_DRAWN]
     requires locks { table.now.key.writing ≡ UnderLocks }
     requires place { pass.old.table_id ≡ table.now.table_id }
     requires pool { POOL_PLACE < table.now.table_id.words }
@@ -75,7 +87,7 @@ fn draw_cells(table: &Words, pass: &mut Pass, count: usize) -> [u32; 21]
     ensures long { length result ≡ CELLS_OF_ONE }
     ensures drawn { HasDrawn pass.old.me.0 pass.new.me.0 (take count result) }
 {
-    let mut cells = [0u32; 21];
+    let mut cells = [0u32; MOST_DRAWN];
     for k in 0..count {
         cells[k] = draw_cell(table, pass);
     }

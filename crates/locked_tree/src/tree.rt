@@ -2,11 +2,10 @@
 
 ghost use Rattle.std.specs.Prelude.{◌≡◌, ◌≢◌, ℕ, [], ◌∷◌, ◌+◌, ◌<◌, ◌≤◌, ◌++◌, length, IfNone, IfOk, IfSome, OnErr, OnOk};
 ghost use Rattle.octant_code.specs.Points.{site_at};
+ghost use Rattle.octant_code.specs.declared.limits.TheConstants.{MOST_BODIES};
 ghost use Rattle.octant_code.specs.Space.{IsUnder};
 ghost use Rattle.tree_rule.specs.Words.{body_word};
 ghost use Rattle.tree_passes.specs.Counting.{times, without, without_all};
-ghost use Rattle.tree_passes.specs.Passes.{given_part};
-ghost use Rattle.octant_code.specs.declared.limits.TheConstants.{MOST_BODIES};
 ghost use Rattle.locked_tree.specs.Finding.{NamesNoneAt};
 ghost use Rattle.locked_tree.specs.Seen.{stock_of, IsOf, PassState, SharedTree};
 

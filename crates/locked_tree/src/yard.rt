@@ -136,7 +136,8 @@ impl LockedYard {
     /// entrusted with all bodies that are to be put in.
     ///
     /// With the shared pool the cells that the start holds and 21 for each body, and with regions the
-    /// cells that it uses and 21 for each body, are together at most 1,376,256.
+    /// cells that it uses and 21 for each body, are together at most 1,376,256. The table takes 80 bytes
+    /// for each of these cells, twice: once for its words, and once for those of the octree at the end.
     ///
     /// # Errors
     ///

@@ -1,4 +1,4 @@
-use Rattle.std.proofs.Common.{arith, ◌≡◌, ◌<◌, ◌≤◌, ◌∙◌, ℕ, ◌+◌, ◌*◌, add-one, false, true, ap, length, refl, subst, sym, inl}
+use Rattle.std.proofs.Common.{arith, ◌≡◌, ◌<◌, ◌∙◌, ℕ, ◌+◌, ◌*◌, add-one, ap, length, refl, subst, sym, inl}
 use Rattle.octant_code.specs.declared.limits.TheConstants.{LEVELS}
 use Rattle.octant_code.specs.Space.{key_of, same_coordinates}
 use Rattle.octant_code.specs.Points.{site_at, ArePoints}
@@ -33,10 +33,9 @@ loop-level-init c = (refl, refl, c.requires.some, omega arith, inl (refl, key-ze
 
 pub named_by-requires : goal.named_by-requires
 named_by-requires c =
-    let i = c.loop-level.invariant in
-    let s = i.5 in
-    word_small _ _ _ (sought c).looked.tells (subst ArePoints (sym (s.points ∙ c.requires.points)) c.len-rule.ensures.rule)
-    (omega (arith, s.long, c.requires.long, c.requires.few))
+    let s = c.loop-level.invariant.5 in
+    let rule = subst ArePoints (sym (s.points ∙ c.requires.points)) c.len-rule.ensures.rule in
+    omega (arith, word_small _ _ _ (sought c).looked.tells rule (omega (arith, s.long, c.requires.long, c.requires.few)))
 
 pub returns-in-Nothing-clause-none : goal.returns-in-Nothing-clause-none
 returns-in-Nothing-clause-none c =

@@ -1,4 +1,4 @@
-use Rattle.std.proofs.Common.{arith, ◌≤◌, length-set, refl, ◌∙◌}
+use Rattle.std.proofs.Common.{arith, length-set, refl, ◌∙◌}
 use Rattle.locked_tree.proofs.Puts.{drawn_more, drawn_none, quota_left}
 use Rattle.locked_tree.proofs.insert.draw_cells.Goals as goal
 

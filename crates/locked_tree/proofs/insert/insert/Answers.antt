@@ -1,5 +1,6 @@
 use Rattle.std.proofs.Common.{arith, refl, ap, sym, ◌∙◌}
 use Rattle.octant_code.specs.Space.{octant_of}
+use Rattle.octant_code.specs.Points.{site_at}
 use Rattle.tree_passes.proofs.Laws.{still_on, still_refl}
 use Rattle.locked_tree.proofs.Puts.{at_below, at_root}
 use Rattle.locked_tree.proofs.insert.insert.Goals as goal
@@ -17,8 +18,8 @@ loop-level-preserved g c =
       e.pass.1 ∙ i.1,
       e.no_lock,
       refl,
-      at_below _ _ _ _ _ c.loop-level.spot _ c.in-Below.cell c.octant.result i.4 e.turn
-          (c.octant.ensures.value ∙ ap (λ s. octant_of s c.loop-level.level) c.at-p.ensures.value ∙ ap (octant_of _) (sym i.3))
+      at_below c.loop-level.pass.me.0 c.visit.new.pass.me.0 _ c.args.points.now c.args.n c.loop-level.spot _ c.in-Below.cell c.octant.result i.4 e.turn
+          (c.octant.ensures.value ∙ ap (λ s. octant_of s c.loop-level.level) c.at-p.ensures.value ∙ ap (octant_of (site_at c.args.points.now c.args.n)) (sym i.3))
           c.octant.ensures.small c.place_of_child.ensures c.place_of_lock.ensures (omega (arith, i.3)),
       still_on _ _ _ i.5 e.turn.still,
     )

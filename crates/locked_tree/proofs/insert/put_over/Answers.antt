@@ -1,4 +1,4 @@
-use Rattle.std.proofs.Common.{arith, ◌≡◌, ◌-◌, ◌≤◌, ◌∙◌, ℕ, List, length, take, get_or, ap, sym, subst}
+use Rattle.std.proofs.Common.{◌≡◌, ◌∙◌, ℕ, List, take, get_or, ap, sym, subst}
 use Rattle.octant_code.specs.Space.{key_of}
 use Rattle.octant_code.specs.Points.{site_at}
 use Rattle.bh_model.specs.Bodies.{IsIn}

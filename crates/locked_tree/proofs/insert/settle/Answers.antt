@@ -1,7 +1,6 @@
-use Rattle.std.proofs.Common.{arith, ◌≡◌, ◌∙◌, ℕ, [], ◌∷◌, length, subst, sym}
+use Rattle.std.proofs.Common.{arith, ◌∙◌, ℕ, [], length, subst, sym}
 use Rattle.octant_code.specs.Space.{key_of}
 use Rattle.octant_code.specs.Points.{site_at}
-use Rattle.tree_rule.specs.Words.{body_word}
 use Rattle.tree_passes.specs.Counting.{Has}
 use Rattle.tree_passes.specs.Plays.{LookedUnder}
 use Rattle.tree_passes.specs.Turns.{IsStill}
@@ -25,8 +24,8 @@ load_locked-requires-clause-held c = lock_held c.args.pass.now.me.0 _ _ c.requir
 
 pub named_by-requires : goal.named_by-requires
 named_by-requires c =
-    word_at _ _ _ _ _ _ _ _ (still_counted c.args.pass.now.me.0 (key_of (site_at c.args.points.now c.args.n) c.args.spot.level) c.load_locked.result)
-    (looked c).looked.tells c.requires.at
+    let s = still_counted c.args.pass.now.me.0 (key_of (site_at c.args.points.now c.args.n) c.args.spot.level) c.load_locked.result in
+    omega (arith, word_at _ _ _ _ _ _ _ _ s (looked c).looked.tells c.requires.at)
 
 pub store_locked-requires-clause-ready : goal.store_locked-requires-clause-ready
 store_locked-requires-clause-ready c =

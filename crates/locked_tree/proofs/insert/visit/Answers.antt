@@ -1,15 +1,13 @@
-use Rattle.std.proofs.Common.{arith, ◌≡◌, ◌∙◌, ℕ, [], ap, length, subst, sym}
+use Rattle.std.proofs.Common.{arith, ◌≡◌, ◌∙◌, ℕ, [], ◌∷◌, length, subst, sym}
 use Rattle.octant_code.specs.Space.{key_of}
 use Rattle.octant_code.specs.Points.{site_at}
-use Rattle.tree_passes.specs.declared.view.View.{View}
 use Rattle.tree_passes.specs.Looks.{Looked}
 use Rattle.tree_passes.specs.Turns.{IsStill}
 use Rattle.tree_passes.proofs.Laws.{found_learnt, ready_still, still_counted, still_looked}
 use Rattle.locked_tree.specs.Seen.{HasStock}
-use Rattle.locked_tree.specs.Inserting.{LeadsTo}
-use Rattle.locked_tree.proofs.Puts.{at_locked, at_still, leads_kept, leads_still, leads_unlocked, lock_of, ready_locked, word_at}
+use Rattle.locked_tree.proofs.Puts.{at_locked, at_still, leads_kept, leads_still, leads_unlocked, lock_of, locked_parts, looked_parts, ready_locked, unlocked_parts, word_at}
 use Rattle.locked_tree.proofs.insert.visit.Given.{Over}
-use Rattle.locked_tree.proofs.insert.visit.Goals.{After-load}
+use Rattle.locked_tree.proofs.insert.visit.Goals.{After-load, After-take_lock}
 use Rattle.locked_tree.proofs.insert.visit.Goals as goal
 
 -- what the load told
@@ -28,7 +26,8 @@ named_by-requires g c =
 pub returns-in-Cell-clause-no_lock : goal.returns-in-Cell-clause-no_lock
 returns-in-Cell-clause-no_lock g c =
     let l = looked g (goal.at.returns-in-Cell-clause-no_lock g c).After-load in
-    (ap (λ (z : View). z.locks) l.view ∙ c.requires.no_lock.0, ap (λ (z : View). z.under) l.view ∙ c.requires.no_lock.1)
+    let parts = looked_parts c.args.pass.now.me.0 _ _ _ c.load.new.pass.me.0 l in
+    (parts.0 ∙ c.requires.no_lock.0, parts.1 ∙ c.requires.no_lock.1)
 
 pub returns-in-Cell-clause-turn : goal.returns-in-Cell-clause-turn
 returns-in-Cell-clause-turn g c =
@@ -47,13 +46,21 @@ take_lock-requires-clause-lock g c = lock_of _ _ c.requires.at.lock_is
 pub take_lock-requires-clause-none_held : goal.take_lock-requires-clause-none_held
 take_lock-requires-clause-none_held g c = (still g (goal.at.take_lock-requires-clause-none_held g c).After-load).locks ∙ c.requires.no_lock.0
 
+-- the lock is held, and else the pass is as it was
+locked : (g : Over) (c : After-take_lock g) → (c.take_lock.new.pass.me.0.locks ≡ c.args.spot.lock ∷ [])
+    × (c.take_lock.new.pass.me.0.quota ≡ c.args.pass.now.me.0.quota) × (length c.take_lock.new.pass.me.0.memory ≡ c.args.table.now.table_id.words)
+locked g c =
+    let s = still_looked c.args.pass.now.me.0 _ _ _ c.load.new.pass.me.0 (c.load.ensures.looked _ c.requires.at.known) in
+    let p = locked_parts c.load.new.pass.me.0 c.take_lock.new.pass.me.0 (c.args.spot.lock ∷ []) c.take_lock.ensures.taken in
+    (p.0, p.1 ∙ s.quota, p.2 ∙ s.long ∙ c.requires.at.long)
+
 pub settle-turn-requires-clause-at : goal.settle-turn-requires-clause-at
 settle-turn-requires-clause-at g c =
     at_locked _ _ _ _ _ _ _ c.take_lock.ensures.taken
     (at_still _ _ _ _ _ _ (still g (goal.at.settle-turn-requires-clause-at g c).After-load) c.requires.at)
 
 pub settle-turn-requires-clause-held : goal.settle-turn-requires-clause-held
-settle-turn-requires-clause-held g c = ap (λ (z : View). z.locks) c.take_lock.ensures.taken
+settle-turn-requires-clause-held g c = (locked g (goal.at.settle-turn-requires-clause-held g c).After-take_lock).0
 
 pub settle-turn-requires-clause-ready : goal.settle-turn-requires-clause-ready
 settle-turn-requires-clause-ready g c =
@@ -62,28 +69,25 @@ settle-turn-requires-clause-ready g c =
 
 pub settle-turn-requires-clause-stock : goal.settle-turn-requires-clause-stock
 settle-turn-requires-clause-stock g c =
-    let s = still g (goal.at.settle-turn-requires-clause-stock g c).After-load in
-    subst (λ (z : ℕ). HasStock c.args.pool z (length c.args.spare.now) 1)
-    (sym (ap (λ (z : View). z.quota) c.take_lock.ensures.taken ∙ s.quota)) c.requires.stock
+    let l = locked g (goal.at.settle-turn-requires-clause-stock g c).After-take_lock in
+    subst (λ (z : ℕ). HasStock c.args.pool z (length c.args.spare.now) 1) (sym l.1) c.requires.stock
 
 pub unlock-requires-clause-long : goal.unlock-requires-clause-long
 unlock-requires-clause-long g c =
-    let s = still g (goal.at.unlock-requires-clause-long g c).After-load in
-    (leads_kept _ _ _ _ _ _ _ c.settle-turn.ensures.turn).1 ∙ ap (λ (z : View). length z.memory) c.take_lock.ensures.taken ∙ s.long ∙ c.requires.at.long
+    (leads_kept _ _ _ _ _ _ _ c.settle-turn.ensures.turn).1 ∙ (locked g (goal.at.unlock-requires-clause-long g c).After-take_lock).2
 
 pub unlock-requires-clause-held : goal.unlock-requires-clause-held
-unlock-requires-clause-held g c = (leads_kept _ _ _ _ _ _ _ c.settle-turn.ensures.turn).0 ∙ ap (λ (z : View). z.locks) c.take_lock.ensures.taken
+unlock-requires-clause-held g c =
+    (leads_kept _ _ _ _ _ _ _ c.settle-turn.ensures.turn).0 ∙ (locked g (goal.at.unlock-requires-clause-held g c).After-take_lock).0
 
 pub returns-clause-no_lock : goal.returns-clause-no_lock
-returns-clause-no_lock g c = (ap (λ (z : View). z.locks) c.unlock.ensures.free, ap (λ (z : View). z.under) c.unlock.ensures.free)
+returns-clause-no_lock g c = unlocked_parts c.settle-turn.new.pass.me.0 c.unlock.new.pass.me.0 c.unlock.ensures.free
 
 pub returns-clause-turn : goal.returns-clause-turn
 returns-clause-turn g c =
     let s = still g (goal.at.returns-clause-turn g c).After-load in
     let key = key_of (site_at c.args.points.now c.args.n) c.args.spot.level in
     leads_still _ c.load.new.pass.me.0 _ c.args.n c.args.pool c.args.spare.now key c.settle-turn.result s
-    (leads_unlocked c.load.new.pass.me.0 c.settle-turn.new.pass.me.0 _ c.args.spot.lock c.args.n c.args.pool c.args.spare.now key c.settle-turn.result
+    (leads_unlocked c.load.new.pass.me.0 c.take_lock.new.pass.me.0 c.settle-turn.new.pass.me.0 _ c.args.spot.lock c.args.n c.args.pool c.args.spare.now key c.settle-turn.result
     (s.locks ∙ c.requires.no_lock.0)
-    (subst (λ (z : View). LeadsTo z c.settle-turn.new.pass.me.0 c.args.n c.args.pool c.args.spare.now key c.settle-turn.result) c.take_lock.ensures.taken
-    c.settle-turn.ensures.turn)
-    c.unlock.ensures.free)
+    c.take_lock.ensures.taken c.settle-turn.ensures.turn c.unlock.ensures.free)

@@ -1,4 +1,4 @@
-use Rattle.std.proofs.Common.{◌≡◌, ℕ, ap, subst, sym, ◌∙◌}
+use Rattle.std.proofs.Common.{ℕ, ap, subst, sym, ◌∙◌}
 use Rattle.locked_tree.specs.Seen.{IsAtRest}
 use Rattle.locked_tree.proofs.Counted.{counted_sought}
 use Rattle.locked_tree.proofs.Resting.{rest_sought}
