@@ -225,10 +225,12 @@ pub quota_left : (v w : View) (cells : List ℕ) (k : ℕ) → HasDrawn v w (tak
 quota_left v w cells k d l some = let a = d.quota in let b = length-take-le k cells l in omega arith
 
 -- one cell more is drawn
-pub drawn_more : (u v w : View) (cells : List ℕ) (k c : ℕ) → k < length cells → 1 ≤ v.quota → HasDrawn u v (take k cells) → IsDrawn v c w
+pub drawn_more : (u v w : View) (cells : List ℕ) (k c : ℕ) → k < length cells → k < u.quota → HasDrawn u v (take k cells) → IsDrawn v c w
     → HasDrawn u w (take (k + 1) (set cells k c))
-drawn_more u v w cells k c l some d i =
-    let all : (x : ℕ) → times x (take k cells ++ c ∷ []) ≡ times x (take k cells) + same c x = λ x. let t = times-append x (take k cells) (c ∷ []) in omega arith in
+drawn_more u v w cells k c l more d i =
+    let some = quota_left u v cells k d (omega arith) more in
+    let all : (x : ℕ) → times x (take k cells ++ c ∷ []) ≡ times x (take k cells) + same c x =
+    λ x. let t = times-append x (take k cells) (c ∷ []) in omega arith in
     let alone : (x : ℕ) → c ≡ x → (times x v.held ≡ 0) × (lock_place x < length v.memory) =
     λ x e. subst (λ (z : ℕ). (times z v.held ≡ 0) × (lock_place z < length v.memory)) e (i.fresh, i.inside) in
     subst (HasDrawn u w) (sym (take_more_set cells k c l))

@@ -72,7 +72,8 @@ rest_put v w words from cells used n r h few i none_under =
         omega arith
 
 -- and so does a load
-pub rest_still : (v w : View) (words : ℕ) (from : Pool) (cells : List ℕ) → IsStill v w → w.under ≡ [] → IsAtRest v words from cells → IsAtRest w words from cells
+pub rest_still : (v w : View) (words : ℕ) (from : Pool) (cells : List ℕ) → IsStill v w → w.under ≡ [] → IsAtRest v words from cells
+    → IsAtRest w words from cells
 rest_still v w words from cells s none_under r = record {
   some = r.some;
   few = r.few;
@@ -122,7 +123,8 @@ under_sought v i key value point w h = by_word (word_is value)
     by_test y e false f = missed (λ z g is.
         let one : z ≡ y = omega arith in
         let same : same_coordinates (site_at v.points y) point ≡ true =
-        subst (λ (s : Site). same_coordinates (site_at v.points y) s ≡ true) (ap (site_at v.points) (sym one) ∙ is) (same_coordinates_refl (site_at v.points y)) in
+        subst (λ (s : Site). same_coordinates (site_at v.points y) s ≡ true) (ap (site_at v.points) (sym one) ∙ is)
+        (same_coordinates_refl (site_at v.points y)) in
         true_not_false (sym same ∙ f))
 
     by_word : WordIs value → w.under ≡ v.under

@@ -84,7 +84,8 @@ loop-level-preserved c =
       omega (arith, d.below.cell.inside, small, d.still.long, c.requires.long, c.place_of_child-word.ensures),
       omega arith,
       subst (λ (z : ℕ). KnowsPlace c.seek.new.pass.me.0 z (key_of c.args.p (c.loop-level.level + 1))) (sym c.place_of_child-word.ensures)
-          (subst (KnowsPlace c.seek.new.pass.me.0 (child_place c.in-Cell.cell c.octant.result)) key (place_below _ _ c.in-Cell.cell c.octant.result d.below small)),
+          (subst (KnowsPlace c.seek.new.pass.me.0 (child_place c.in-Cell.cell c.octant.result)) key
+          (place_below _ _ c.in-Cell.cell c.octant.result d.below small)),
       d.still,
       under_sought _ _ _ _ _ _ (c.seek.ensures.sought _ i.4) ∙ i.6,
     )

@@ -19,7 +19,8 @@ loop-level-preserved g c =
       e.no_lock,
       refl,
       at_below c.loop-level.pass.me.0 c.visit.new.pass.me.0 _ c.args.points.now c.args.n c.loop-level.spot _ c.in-Below.cell c.octant.result i.4 e.turn
-          (c.octant.ensures.value ∙ ap (λ s. octant_of s c.loop-level.level) c.at-p.ensures.value ∙ ap (octant_of (site_at c.args.points.now c.args.n)) (sym i.3))
+          (c.octant.ensures.value ∙ ap (λ s. octant_of s c.loop-level.level) c.at-p.ensures.value
+          ∙ ap (octant_of (site_at c.args.points.now c.args.n)) (sym i.3))
           c.octant.ensures.small c.place_of_child.ensures c.place_of_lock.ensures (omega (arith, i.3)),
       still_on _ _ _ i.5 e.turn.still,
     )

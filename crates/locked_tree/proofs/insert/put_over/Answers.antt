@@ -34,9 +34,10 @@ store_locked-requires-clause-ready c =
       key_of (site_at c.args.points.now c.args.n) c.args.spot.level,
       place_still _ _ _ _ s r.at.known,
       ready_over v c.args.points.now c.args.x c.args.n _ _ _ (get_or c.args.spare.now 0 0) cells (s.points ∙ r.at.points)
-          (some_held _ _ _ c.part_two-used.result (ready_on _ _ _ _ _ e.wrote r.ready)) (todo_still _ _ _ s r.at.todo) c.word_of_body.ensures c.word_of_cell-top.ensures
-          (subst (λ (z : ℕ). StandsFor (site_at c.args.points.now) (at_of v.memory) (cell_word (get_or c.args.spare.now 0 0)) z (IsIn cells) (IsOneOf c.args.x c.args.n))
-          (key d) e.stands),
+          (some_held _ _ _ c.part_two-used.result (ready_on _ _ _ _ _ e.wrote r.ready)) (todo_still _ _ _ s r.at.todo)
+          c.word_of_body.ensures c.word_of_cell-top.ensures
+          (subst (λ (z : ℕ). StandsFor (site_at c.args.points.now) (at_of v.memory) (cell_word (get_or c.args.spare.now 0 0)) z (IsIn cells)
+          (IsOneOf c.args.x c.args.n)) (key d) e.stands),
     )
 
 pub store_locked-requires-clause-held : goal.store_locked-requires-clause-held

@@ -50,7 +50,8 @@ store_locked-requires-clause-loaded c =
 pub returns-in-Nothing-clause-turn : goal.returns-in-Nothing-clause-turn
 returns-in-Nothing-clause-turn c =
     let s = still (goal.at.returns-in-Nothing-clause-turn c).After-load_locked in
-    leads_still _ c.load_locked.new.pass.me.0 _ c.args.n c.args.pool c.args.spare.now (key_of (site_at c.args.points.now c.args.n) c.args.spot.level) (turn.Done 0) s
+    leads_still _ c.load_locked.new.pass.me.0 _ c.args.n c.args.pool c.args.spare.now (key_of (site_at c.args.points.now c.args.n) c.args.spot.level)
+    (turn.Done 0) s
     (omega arith, put_alone _ _ c.args.n c.args.pool (inserted_put _ _ c.args.n [] _ (λ x. omega arith) c.store_locked.ensures.put))
 
 pub cover-requires-clause-at : goal.cover-requires-clause-at

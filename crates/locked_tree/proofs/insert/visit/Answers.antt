@@ -88,6 +88,5 @@ returns-clause-turn g c =
     let s = still g (goal.at.returns-clause-turn g c).After-load in
     let key = key_of (site_at c.args.points.now c.args.n) c.args.spot.level in
     leads_still _ c.load.new.pass.me.0 _ c.args.n c.args.pool c.args.spare.now key c.settle-turn.result s
-    (leads_unlocked c.load.new.pass.me.0 c.take_lock.new.pass.me.0 c.settle-turn.new.pass.me.0 _ c.args.spot.lock c.args.n c.args.pool c.args.spare.now key c.settle-turn.result
-    (s.locks ∙ c.requires.no_lock.0)
-    c.take_lock.ensures.taken c.settle-turn.ensures.turn c.unlock.ensures.free)
+    (leads_unlocked c.load.new.pass.me.0 c.take_lock.new.pass.me.0 c.settle-turn.new.pass.me.0 _ c.args.spot.lock c.args.n c.args.pool
+    c.args.spare.now key c.settle-turn.result (s.locks ∙ c.requires.no_lock.0) c.take_lock.ensures.taken c.settle-turn.ensures.turn c.unlock.ensures.free)

@@ -11,7 +11,8 @@ invariant_of-pass c =
     let f = c.pass.inside in (
       e.pass.1 ∙ i.0,
       subst (λ (z : ℕ). IsAtRest c.find.new.pass.me.0 z f.pool f.region.cells) (sym (ap (λ z. z.words) e.pass.0))
-          (rest_sought f.seat.me.0 c.find.new.pass.me.0 f.seat.table_id.words f.pool f.region.cells c.args.p c.find.result (e.under ∙ i.1.none_under) e.some e.none
+          (rest_sought f.seat.me.0 c.find.new.pass.me.0 f.seat.table_id.words f.pool f.region.cells c.args.p c.find.result
+          (e.under ∙ i.1.none_under) e.some e.none
           i.1),
       counted_sought f.seat.me.0 c.find.new.pass.me.0 f.published f.changes c.args.p c.find.result e.some e.none i.2,
     )
