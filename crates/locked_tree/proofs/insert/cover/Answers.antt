@@ -13,7 +13,8 @@ use Rattle.locked_tree.proofs.insert.cover.Goals as goal
 
 -- with regions there are cells enough
 enough : (c : In-Regions)
-    → cells_between (site_at c.args.points.now c.args.x) (site_at c.args.points.now c.args.n) c.args.spot.level (LEVELS - c.args.spot.level) ≤ length c.args.spare.now
+    → cells_between (site_at c.args.points.now c.args.x) (site_at c.args.points.now c.args.n) c.args.spot.level (LEVELS - c.args.spot.level)
+    ≤ length c.args.spare.now
 enough c =
     let stock : CELLS_OF_ONE * 1 ≤ length c.args.spare.now =
     subst (λ (p : Pool). HasStock p c.args.pass.now.me.0.quota (length c.args.spare.now) 1) c.in-Regions.is c.requires.stock in
