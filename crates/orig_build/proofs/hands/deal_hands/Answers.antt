@@ -1,0 +1,52 @@
+use Rattle.std.proofs.Common.{◌≡◌, ◌≤◌, ℕ, List, [], sym, subst, ◌∙◌, ap, arith}
+use Rattle.std.proofs.lemmas.List.{drop_all}
+use Rattle.std.proofs.lemmas.List.Elements.{All-push}
+use Rattle.std.specs.Prelude.{All}
+use Rattle.tree_passes.specs.Counting.{sum_of, times, without_all}
+use Rattle.tree_passes.proofs.Laws.{times-without_all}
+use Rattle.locked_tree.specs.Seen.{PassState}
+use Rattle.orig_build.specs.Hands.{IsReady}
+use Rattle.orig_build.proofs.Dealing.{dealt_more, left_less, todo_alone}
+use Rattle.orig_build.proofs.Sharing.{none_in}
+use Rattle.orig_build.proofs.hands.deal_hands.Goals as goal
+
+pub loop-w-preserved : goal.loop-w-preserved
+loop-w-preserved c =
+    let i = c.loop-w.invariant in
+    let shares = c.args.shares.now in
+    let w = c.loop-w.w in
+    let s = c.index-shares-w.result in
+    let is = c.index-shares-w.is in
+    let own = c.in_ok-own.own in
+    let part = c.as_slice-share.result.now in
+    let part_is : part ≡ s.items = c.as_slice-share.ensures.value in
+    let kept = c.in_ok-own.ensures.kept in
+    let more = c.in_ok-push.ensures.items in
+    let left = left_less (λ z. z.items) shares w s c.loop-w.pass.todo c.loop-w-test.true is i.3 in
+    let among : (x : ℕ) → times x part ≤ times x c.loop-w.pass.todo = λ x. let l = left x in let p = ap (times x) part_is in omega arith in
+    let new = c.in_ok-own.ensures.new in
+    let before = i.2 in (
+      subst (All (IsReady c.args.tree.now)) (sym more) (All-push (IsReady c.args.tree.now) c.loop-w.hands.items _ i.0 (record {
+        tree = record {
+          table = ap (λ (p : PassState). p.table_id) new ∙ ap (λ (p : PassState). p.table_id) before ∙ c.requires.tree.table;
+          points = ap (λ (p : PassState). p.points) new ∙ ap (λ (p : PassState). p.points) before ∙ c.requires.tree.points;
+        };
+        todo = ap (λ (p : PassState). p.todo) new;
+        done = ap (λ (p : PassState). p.done) new;
+        changes = ap (λ (p : PassState). p.changes) new;
+      })),
+      dealt_more (λ z. z.items) shares w s c.loop-w.hands.items _ _ c.loop-w-test.true is part_is more i.1,
+      todo_alone c.args.pass.now c.loop-w.pass c.split.new.pass (without_all part c.loop-w.pass.todo) i.2 kept,
+      (λ x.
+          let l = left x in
+          let p = ap (times x) part_is in
+          let t = times-without_all part c.loop-w.pass.todo among x in
+          let k = ap (λ (z : PassState). times x z.todo) kept in
+          omega arith),
+    )
+
+pub returns-clause-pass : goal.returns-clause-pass
+returns-clause-pass c =
+    let i = c.loop-w.invariant in
+    let none : c.loop-w.pass.todo ≡ [] = none_in c.loop-w.pass.todo (λ x. i.3 x ∙ ap (sum_of (λ s. times x s.items)) (drop_all c.loop-w.w c.args.shares.now (omega arith))) in
+    i.2 ∙ ap (λ (t : List ℕ). record c.args.pass.now { todo = t }) none

@@ -1,0 +1,61 @@
+//! All workers insert at the same time into one octree with locks.
+
+ghost use Rattle.std.specs.Prelude.{◌≡◌, length, map, IfOk, OnErr, OnOk};
+ghost use Rattle.std.specs.Arc.{arc_value};
+ghost use Rattle.bh_model.specs.Bodies.{numbers};
+ghost use Rattle.octree.specs.Stored.{IsOctreeOf};
+ghost use Rattle.locked_tree.specs.Seen.{risen};
+ghost use Rattle.orig_build.specs.Shares.{AreShares};
+
+use crate::hands::{deal_hands, join_hands, work_all};
+use build_gate::Gate;
+use locked_tree::{LockedYard, Pool};
+use octant_code::{OutOfMemory, Points};
+use octree::Octree;
+use std::alloc::Global;
+use std::sync::{Arc, Wait};
+use std::thread::Threads;
+
+/// The octree of all points, into which one worker a share inserts the bodies of its share, all at the
+/// same time. The worker of a share has the share's position as its number and passes the gate. One
+/// share is worked by the calling thread. It may wait.
+///
+/// # Errors
+///
+/// `OutOfMemory` for want of memory, all of which is taken before the first insertion. The yard is as
+/// it was then.
+pub fn build<R: Threads + Wait + Sync, G: Gate>(
+    rt: &R,
+    alloc: Global,
+    yard: &mut LockedYard,
+    points: &Arc<Points>,
+    shares: &[Vec<u32>],
+    gate: &G,
+) -> Result<Octree, OutOfMemory>
+    requires { AreShares (length (arc_value points.now)) (map (λ s. s.items) shares.now) }
+    ensures tree { IfOk result (λ t. IsOctreeOf (arc_value points.now) t) }
+    ensures published { OnOk result (yard.new.published ≡ risen yard.old.published (length (arc_value points.now))) }
+    ensures changes { OnOk result (yard.new.changes ≡ risen yard.old.changes (length (arc_value points.now))) }
+    ensures refused { OnErr result (yard.new ≡ yard.old) }
+{
+    let todo = first_numbers(alloc, points.len())?;
+    let start = Octree::empty(alloc, 0)?;
+    let (tree, mut pass) = yard.open(alloc, points, start, &todo, Pool::Shared)?;
+    let mut hands = deal_hands(alloc, &tree, &mut pass, shares)?;
+    work_all(rt, &tree, hands.as_mut_slice(), gate);
+    join_hands(&tree, &mut pass, hands);
+    let octree = yard.close(tree, pass);
+    octree.canonical_tree(points);
+    Ok(octree)
+}
+
+/// The numbers below a number.
+fn first_numbers(alloc: Global, count: u32) -> Result<Vec<u32>, OutOfMemory>
+    ensures { IfOk result (λ v. v.items ≡ numbers count) }
+{
+    let mut list = Vec::with_capacity(alloc, count as usize)?;
+    for n in 0..count {
+        list.push(n)?;
+    }
+    Ok(list)
+}
