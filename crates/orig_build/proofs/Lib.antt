@@ -2,3 +2,4 @@ mod Sharing
 mod Dealing
 mod Taken
 mod Whole
+pub mod Laws

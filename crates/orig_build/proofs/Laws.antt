@@ -1,0 +1,78 @@
+-- What callers rest on: shares that an owner of each body tells are shares.
+use Rattle.std.proofs.Common.{◌≡◌, ◌≢◌, ◌+◌, ◌<◌, ◌≤◌, ℕ, cond, Bool, filter, List, [], ◌∷◌, map, refl, sym, ◌∙◌, ap, arith, eqb, eq-eqb, ne_eqb}
+use Rattle.std.proofs.lemmas.List.{length-map}
+use mathlib.Core.Logic.{dite}
+use native.Mathlib.Decide.{ℕ_discrete}
+use Rattle.bh_model.specs.Bodies.{numbers}
+use Rattle.tree_passes.specs.Counting.{same, sum_of, times}
+use Rattle.tree_passes.proofs.Laws.{same-eq, same-ne}
+use Rattle.orig_build.specs.Shares.{AreShares}
+use Rattle.orig_build.proofs.Sharing.{each_of_numbers, length_of_each, sum_of-map}
+
+-- the members of a list that a worker owns
+abbrev pub owned : (ℕ → ℕ) → List ℕ → ℕ → List ℕ
+owned own all w = filter (λ n. eqb (own n) w) all
+
+module _ (own : ℕ → ℕ) (w n : ℕ) where
+  times-own : (all : List ℕ) → own n ≡ w → times n (owned own all w) ≡ times n all
+  times-own [] mine = refl
+  times-own (y ∷ ys) mine = dite (ℕ_discrete (own y) w)
+      (λ e.
+      let f : times n (owned own (y ∷ ys) w) ≡ same y n + times n (owned own ys w) =
+      ap (λ (b : Bool). times n (cond b (y ∷ owned own ys w) (owned own ys w))) (eq-eqb (own y) w e) in
+      let r = times-own ys mine in
+      omega arith)
+      (λ d.
+      let f : times n (owned own (y ∷ ys) w) ≡ times n (owned own ys w) =
+      ap (λ (b : Bool). times n (cond b (y ∷ owned own ys w) (owned own ys w))) (ne_eqb (own y) w d) in
+      let r = times-own ys mine in
+      let other = same-ne y n (λ (q : y ≡ n). d (ap own q ∙ mine)) in
+      omega arith)
+
+  times-other : (all : List ℕ) → own n ≢ w → times n (owned own all w) ≡ 0
+  times-other [] apart = refl
+  times-other (y ∷ ys) apart = dite (ℕ_discrete (own y) w)
+      (λ e.
+      let f : times n (owned own (y ∷ ys) w) ≡ same y n + times n (owned own ys w) =
+      ap (λ (b : Bool). times n (cond b (y ∷ owned own ys w) (owned own ys w))) (eq-eqb (own y) w e) in
+      let r = times-other ys apart in
+      let other = same-ne y n (λ (q : y ≡ n). apart (sym (ap own q) ∙ e)) in
+      omega arith)
+      (λ d.
+      let f : times n (owned own (y ∷ ys) w) ≡ times n (owned own ys w) =
+      ap (λ (b : Bool). times n (cond b (y ∷ owned own ys w) (owned own ys w))) (ne_eqb (own y) w d) in
+      let r = times-other ys apart in
+      omega arith)
+
+-- in the shares of some workers a number stands as often as its owner is one of them
+times_owned : (own : ℕ → ℕ) (n : ℕ) (all workers : List ℕ) → times n all ≡ 1
+    → sum_of (λ w. times n (owned own all w)) workers ≡ times (own n) workers
+times_owned own n all [] one = refl
+times_owned own n all (w ∷ ws) one =
+    let r = times_owned own n all ws one in
+    dite (ℕ_discrete (own n) w) (λ e. let t = times-own own w n all e in let s = same-eq w (own n) (sym e) in omega arith)
+    (λ d. let t = times-other own w n all d in let s = same-ne w (own n) (λ (q : w ≡ own n). d (sym q)) in omega arith)
+
+-- and one that no list has stands in none
+none_owned : (own : ℕ → ℕ) (n : ℕ) (all workers : List ℕ) → times n all ≡ 0 → sum_of (λ w. times n (owned own all w)) workers ≡ 0
+none_owned own n all [] none = refl
+none_owned own n all (w ∷ ws) none =
+    let r = none_owned own n all ws none in
+    dite (ℕ_discrete (own n) w) (λ e. let t = times-own own w n all e in omega arith) (λ d. let t = times-other own w n all d in omega arith)
+
+-- where each number below the count is owned by one of 1 to 64 workers, what they own are shares
+pub owned_are_shares : (workers count : ℕ) (own : ℕ → ℕ) → 1 ≤ workers → workers ≤ 64 → ((n : ℕ) → n < count → own n < workers)
+    → AreShares count (map (owned own (numbers count)) (numbers workers))
+owned_are_shares workers count own some few less =
+    let all = numbers count in
+    let every = each_of_numbers count in
+    let those = each_of_numbers workers in
+    let size = length-map (numbers workers) (owned own all) in
+    let many = length_of_each workers (numbers workers) those in
+    record {
+      some = omega arith;
+      few = omega arith;
+      once = λ n s. sum_of-map (times n) (owned own all) (numbers workers) ∙ times_owned own n all (numbers workers) (every.once n s)
+          ∙ those.once (own n) (less n s);
+      no_other = λ n s. sum_of-map (times n) (owned own all) (numbers workers) ∙ none_owned own n all (numbers workers) (every.no_other n s);
+    }
