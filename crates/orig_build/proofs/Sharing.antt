@@ -1,5 +1,6 @@
 -- Counting over shares and workers.
-use Rattle.std.proofs.Common.{◌≡◌, ◌+◌, ◌<◌, ◌≤◌, ℕ, zero, suc, cond, Bool, List, [], ◌∷◌, length, map, inl, inr, refl, sym, ◌∙◌, ap, arith, eq-eqb, ne_eqb, length-append}
+use Rattle.std.proofs.Common.{◌≡◌, ◌+◌, ◌<◌, ◌≤◌, ℕ, zero, suc, cond, Bool, List, [], ◌∷◌}
+use Rattle.std.proofs.Common.{length, map, inl, inr, refl, sym, ◌∙◌, ap, arith, eq-eqb, ne_eqb, length-append}
 use mathlib.Core.Logic.{dite}
 use native.Mathlib.Decide.{ℕ_discrete}
 use Rattle.std.specs.Prelude.{slice_index_or}

@@ -48,5 +48,6 @@ loop-w-preserved c =
 pub returns-clause-pass : goal.returns-clause-pass
 returns-clause-pass c =
     let i = c.loop-w.invariant in
-    let none : c.loop-w.pass.todo ≡ [] = none_in c.loop-w.pass.todo (λ x. i.3 x ∙ ap (sum_of (λ s. times x s.items)) (drop_all c.loop-w.w c.args.shares.now (omega arith))) in
+    let end = drop_all c.loop-w.w c.args.shares.now (omega arith) in
+    let none : c.loop-w.pass.todo ≡ [] = none_in c.loop-w.pass.todo (λ x. i.3 x ∙ ap (sum_of (λ s. times x s.items)) end) in
     i.2 ∙ ap (λ (t : List ℕ). record c.args.pass.now { todo = t }) none

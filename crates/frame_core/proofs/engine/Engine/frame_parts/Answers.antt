@@ -67,8 +67,8 @@ cost_of-requires-clause-costs_of_bodies g c n b =
 
 pub cost_of-requires-clause-moments : goal.cost_of-requires-clause-moments
 cost_of-requires-clause-moments g c = rw c.whole.ensures.octree (record {
-  within = c.in_ok-moments.ensures.within;
-  cost_is = λ d r. ap (λ m. m.cost) (c.in_ok-moments.ensures.each d r);
+  within = c.in_ok-moments.ensures.moments.within;
+  cost_is = λ d r. ap (λ m. m.cost) (c.in_ok-moments.ensures.moments.each d r);
 })
 
 pub greatest_cost-requires-clause-inside : goal.greatest_cost-requires-clause-inside
