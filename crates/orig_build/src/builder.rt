@@ -46,6 +46,7 @@ pub fn build<R: Threads + Wait + Sync, G: Gate>(
     join_hands(&tree, &mut pass, hands);
     let octree = yard.close(tree, pass);
     octree.canonical_tree(points);
+    let _whole = octree.whole();
     Ok(octree)
 }
 

@@ -81,7 +81,8 @@ returns-clause-tree g c =
     subst (λ (s : List Site). IsOctreeOf s c.close-octree.result) sites
     (octree_put c.deref-3.result.now c.in_ok-tree.tree.opening done c.join_hands.new.pass.seen c.close-octree.result
     (c.in_ok-tree.ensures.points ∙ sym sites) c.close-octree.ensures.tree (c.in_ok-tree.ensures.words 0 ∙ c.in_ok-start.ensures.empty)
-    (subst (λ (s : List Site). HasEach (length s) done) (sym sites) all.each) c.canonical_tree.ensures.rule c.canonical_tree.ensures.tree)
+    (subst (λ (s : List Site). HasEach (length s) done) (sym sites) all.each) c.canonical_tree.ensures.rule
+    c.whole-whole.ensures.bodies c.canonical_tree.ensures.tree)
 
 pub returns-clause-published : goal.returns-clause-published
 returns-clause-published g c =
