@@ -1,5 +1,5 @@
 -- How large squared distances are, and when they are 0.
-use Rattle.std.proofs.Common.{ℕ, ◌+◌, ◌*◌, ◌-◌, ◌^◌, ◌<◌, ◌≤◌, ◌≡◌, ◌≢◌, refl, sym, ap, ◌∙◌, arith, inl, inr}
+use Rattle.std.proofs.Common.{ℕ, ◌+◌, ◌*◌, ◌-◌, ◌^◌, ◌<◌, ◌≤◌, ◌≡◌, ◌≢◌, refl, arith, inl, inr}
 use Rattle.std.specs.Int.{abs_diff}
 use Rattle.std.proofs.lemmas.Bool.{cases_lt}
 use Rattle.std.proofs.lemmas.Nat.{mul-le}
@@ -55,10 +55,3 @@ squared_distance-positive s t differ =
       | inr z ↦ (let g = gaps_within s t in
           absurd (differ (site_parts s.x s.y s.z t.x t.y t.z (omega (arith, g.x)) (omega (arith, g.y)) (omega (arith, g.z)))))
     ]
-
--- a squared distance from the three differences
-pub squared_distance-from : (s t : Site) (x y z : ℕ) → x ≡ abs_diff s.x t.x → y ≡ abs_diff s.y t.y → z ≡ abs_diff s.z t.z
-    → x * x + y * y + z * z ≡ squared_distance s t
-squared_distance-from s t x y z p q r =
-    ap (λ u. u * u + y * y + z * z) p ∙ ap (λ u. abs_diff s.x t.x * abs_diff s.x t.x + u * u + z * z) q
-    ∙ ap (λ u. abs_diff s.x t.x * abs_diff s.x t.x + abs_diff s.y t.y * abs_diff s.y t.y + u * u) r ∙ sym (squared_distance-parts s t)

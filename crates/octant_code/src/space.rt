@@ -1,7 +1,7 @@
 //! The octants that a point lies in, and the keys of the cubes around it.
 
 ghost use Rattle.std.specs.Prelude.{◌≡◌, ◌↔◌, ◌*◌, ◌<◌, ◌≤◌, ◌^◌, IsTrue};
-ghost use Rattle.octant_code.specs.Space.{IsKey, IsUnder, key_of, octant_of, squared_distance};
+ghost use Rattle.octant_code.specs.Space.{IsKey, IsUnder, key_of, octant_of, squared_distance, squared_gap};
 
 use crate::limits::LEVELS;
 use crate::point::Point;
@@ -48,14 +48,24 @@ pub fn key_has(key: u64, p: Point) -> bool
     here == key
 }
 
+// The squared gap between two coordinates. Its root has a sign, so that a caller who takes the gap
+// with its sign from the same coordinates needs no other subtraction.
+#[inline]
+fn squared_gap(from: u32, to: u32) -> u64
+    requires from_fits { from < 2 ^ 21 }
+    requires to_fits { to < 2 ^ 21 }
+    ensures value { result ≡ squared_gap from to }
+    ensures small { result < 2 ^ 42 }
+{
+    let gap = i64::from(to) - i64::from(from);
+    (gap * gap).cast_unsigned()
+}
+
 /// The squared distance of two points, below 2^44.
 #[inline]
 pub fn squared_distance(p: Point, q: Point) -> u64
     ensures value { result ≡ squared_distance p q }
     ensures small { result < 2 ^ 44 }
 {
-    let x = u64::from(p.x.abs_diff(q.x));
-    let y = u64::from(p.y.abs_diff(q.y));
-    let z = u64::from(p.z.abs_diff(q.z));
-    x * x + y * y + z * z
+    squared_gap(p.x, q.x) + squared_gap(p.y, q.y) + squared_gap(p.z, q.z)
 }

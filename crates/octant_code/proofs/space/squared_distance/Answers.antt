@@ -1,19 +1,13 @@
-use Rattle.std.proofs.Common.{ap, ◌∙◌, arith}
-use Rattle.std.specs.Int.{abs_diff}
-use Rattle.octant_code.specs.Space.{Site}
-use Rattle.octant_code.proofs.Distances.{squared_distance-from, squares_small}
+use Rattle.std.proofs.Common.{◌≡◌, ◌+◌, ◌∙◌, ap, arith}
+use Rattle.octant_code.specs.Space.{Site, squared_distance, squared_gap}
 use Rattle.octant_code.proofs.space.squared_distance.Goals as goal
 
 pub returns-clause-value : goal.returns-clause-value
+unfolding squared_distance
 returns-clause-value c =
-    squared_distance-from c.args.p c.args.q c.from-x.result c.from-y.result c.from-z.result
-    (c.from-x.ensures ∙ c.abs_diff.ensures ∙ ap (λ (s : Site). abs_diff s.x c.q.inside.x) c.p.view_is ∙ ap (λ (s : Site). abs_diff c.args.p.x s.x) c.q.view_is)
-    (c.from-y.ensures ∙ c.abs_diff-2.ensures ∙ ap (λ (s : Site). abs_diff s.y c.q.inside.y) c.p.view_is
-    ∙ ap (λ (s : Site). abs_diff c.args.p.y s.y) c.q.view_is)
-    (c.from-z.ensures ∙ c.abs_diff-3.ensures ∙ ap (λ (s : Site). abs_diff s.z c.q.inside.z) c.p.view_is
-    ∙ ap (λ (s : Site). abs_diff c.args.p.z s.z) c.q.view_is)
-
-pub returns-clause-small : goal.returns-clause-small
-returns-clause-small c =
-    squares_small c.from-x.result c.from-y.result c.from-z.result (omega (arith, c.from-x.ensures, c.abs_diff.ensures))
-    (omega (arith, c.from-y.ensures, c.abs_diff-2.ensures)) (omega (arith, c.from-z.ensures, c.abs_diff-3.ensures))
+    let s : Site = record { x = c.p.inside.x; y = c.p.inside.y; z = c.p.inside.z } in
+    let t : Site = record { x = c.q.inside.x; y = c.q.inside.y; z = c.q.inside.z } in
+    let parts : c.squared_gap.result + c.squared_gap-2.result + c.squared_gap-3.result
+    ≡ squared_gap s.x t.x + squared_gap s.y t.y + squared_gap s.z t.z =
+    omega (arith, c.squared_gap.ensures.value, c.squared_gap-2.ensures.value, c.squared_gap-3.ensures.value) in
+    parts ∙ ap (λ u. squared_distance u t) c.p.view_is ∙ ap (λ u. squared_distance c.args.p u) c.q.view_is
