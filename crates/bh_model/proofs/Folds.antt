@@ -3,7 +3,7 @@ use Rattle.std.proofs.Common.{ℕ, ◌+◌, ◌*◌, ◌<◌, ◌≤◌, ◌≡�
 use Rattle.std.proofs.Common.{append-nil, append_assoc}
 use Rattle.std.proofs.Math.Nat.{max-zero}
 use Rattle.bh_model.proofs.Lists.{joined}
-use Rattle.bh_model.proofs.Totals.{each_of_eight, sum_upto, sum_upto-more, sum_upto-none, sum_upto-le}
+use Rattle.bh_model.proofs.Totals.{all_eight, each_of_eight, sum_upto, sum_upto-more, sum_upto-none, sum_upto-le}
 use Rattle.bh_model.proofs.Trees.{greatest-append, keys-body, keys-cell, keys-empty, levels-body, levels-cell, levels-empty, order-body, order-cell}
 use Rattle.bh_model.proofs.Trees.{order-empty}
 use Rattle.bh_model.specs.Trees.{Tree, Empty, Body, Cell, body_levels_from, cell_count, cell_keys_from, cell_of, greatest, height, order}
@@ -20,19 +20,7 @@ height_falls f k small =
 -- a cell is as low as a bound that its children keep
 pub height_within : (f : ℕ → Tree) (most : ℕ) → ((k : ℕ) → k < 8 → height (f k) < most) → height (cell_of f) ≤ most
 unfolding height
-height_within f most each =
-    omega (
-      arith,
-      each 0 (omega arith),
-      each 1 (omega arith),
-      each 2 (omega arith),
-      each 3 (omega arith),
-      each 4 (omega arith),
-      each 5 (omega arith),
-      each 6
-          (omega arith),
-      each 7 (omega arith),
-    )
+height_within f most each = omega (arith, all_eight (λ k. height (f k) < most) each)
 
 -- nothing and one body are flat
 pub height-empty : height Empty ≡ 0

@@ -1,5 +1,5 @@
 -- What a filter, a join and a row of numbers have as members, and that none of them has a member twice.
-use Rattle.std.proofs.Common.{ℕ, ◌<◌, ◌≡◌, ◌≢◌, ◌⊎◌, ◌↔◌, zero, suc, refl, sym, ◌∙◌, ap, subst, inl, inr, arith, List, [], ◌∷◌, ◌++◌, Bool, true, false}
+use Rattle.std.proofs.Common.{ℕ, ◌+◌, ◌<◌, add-one, ◌≡◌, ◌≢◌, ◌⊎◌, ◌↔◌, zero, suc, refl, sym, ◌∙◌, ap, subst, inl, inr, arith, List, [], ◌∷◌, ◌++◌, Bool, true, false}
 use Rattle.std.specs.List.{filter}
 use Rattle.std.proofs.lemmas.Bool.{cases_Bool, cases_lt}
 use Rattle.bh_model.specs.Bodies.{IsIn, NoneTwice, numbers}
@@ -151,6 +151,11 @@ none_twice_joined g (suc m) each apart =
     none_twice-append (joined g m) (g m) (none_twice_joined g m (λ k l. each k (omega arith)) (λ i j n p q x y. apart i j n (omega arith) (omega arith) x y))
     (each m (omega arith))
     (λ n x y. let r = in_joined g m n x in let e : r.part ≡ m = apart r.part m n (omega (arith, r.small)) (omega arith) r.inside y in omega (arith, r.small))
+
+-- one number more
+pub numbers_more : (n : ℕ) → numbers (n + 1) ≡ numbers n ++ (n ∷ [])
+unfolding numbers
+numbers_more n = rw add-one
 
 -- the numbers below a number are those that are less
 pub in_numbers : (n m : ℕ) → IsIn (numbers n) m ↔ (m < n)

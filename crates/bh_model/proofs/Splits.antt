@@ -22,9 +22,10 @@ single [] l = absurd (omega arith)
 single (n ∷ []) l = refl
 single (n ∷ m ∷ rest) l = absurd (omega arith)
 
--- a list is empty where the test says so
-pub list_is_empty : (n : ℕ) (test : Bool) → test ≡ eqb n 0 → test ≡ true → n ≡ 0
-list_is_empty n test e t = eqb-true n 0 (sym e ∙ t)
+-- a list is empty or its level the deepest where a program's tests say so
+pub empty_or_deep : (n level : ℕ) (test : Bool) → test ≡ eqb n 0 → (test ≡ true) ⊎ ((test ≡ false) × (level ≡ 21)) → (n ≡ 0) ⊎ (level ≡ 21)
+empty_or_deep n level test e (inl t) = inl (eqb-true n 0 (sym e ∙ t))
+empty_or_deep n level test e (inr t) = inr t.1
 
 -- a list is not empty where the test says so
 pub list_has_some : (n : ℕ) (test : Bool) → test ≡ eqb n 0 → test ≡ false → n ≢ 0

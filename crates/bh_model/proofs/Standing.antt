@@ -17,7 +17,7 @@ use Rattle.bh_model.specs.Moments.{total}
 use Rattle.bh_model.specs.Standing.{Stands}
 use Rattle.bh_model.proofs.Lists.{filter-none, filter-all, in_numbers, numbers_once}
 use Rattle.bh_model.proofs.Trees.{octree-none, octree-one, octree-many}
-use Rattle.bh_model.proofs.Totals.{sum_upto, sum_upto-same, total-empty, total-body, total-cell}
+use Rattle.bh_model.proofs.Totals.{all_eight, sum_upto, sum_upto-same, total-empty, total-body, total-cell}
 use Rattle.bh_model.proofs.Cells.{ArePlaced, LieUnder, placed_of_points, in_octant-member, in_octant-once, in_octant-placed, in_octant-under, under_root}
 
 -- ---- sums over the parts of a list
@@ -199,18 +199,8 @@ stands_cell most below child two each =
     let P : ℕ → Type 0 = λ down. (1 ≤ suc below) × (2 ≤ total (λ n. 1) (cell_of child)) × Stands most down (child 0) × Stands most down (child 1)
     × Stands most down (child 2)
     × Stands most down (child 3) × Stands most down (child 4) × Stands most down (child 5) × Stands most down (child 6) × Stands most down (child 7) in
-    subst P one (
-      omega arith,
-      two,
-      each 0 (omega arith),
-      each 1 (omega arith),
-      each 2 (omega arith),
-      each 3 (omega arith),
-      each 4 (omega arith),
-      each 5 (omega arith),
-      each 6 (omega arith),
-      each 7 (omega arith),
-    )
+    let e = all_eight (λ k. Stands most below (child k)) each in
+    subst P one (omega arith, two, e.0, e.1, e.2, e.3, e.4, e.5, e.6, e.7)
 
 -- the octree of the bodies of a cube stands
 pub stands_of_list : (most : ℕ) (site : ℕ → Site) (below level key : ℕ) (bodies : List ℕ) → level + below ≡ 21 → NoneTwice bodies → ArePlaced site bodies

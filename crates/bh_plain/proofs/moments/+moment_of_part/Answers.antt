@@ -1,11 +1,11 @@
-use Rattle.std.proofs.Common.{arith, ◌≡◌, ◌≢◌, ◌+◌, ◌-◌, ◌<◌, ◌⊎◌, ℕ, length, sym, subst, ◌∙◌, ap, inl, inr, get_or}
+use Rattle.std.proofs.Common.{arith, ◌≡◌, ◌≢◌, ◌+◌, ◌-◌, ◌<◌, ℕ, length, sym, subst, ◌∙◌, ap, get_or}
 use Rattle.octant_code.specs.Points.{site_at}
 use Rattle.bh_model.specs.Moments.{FitsWords, Matter, matter_by, moment}
 use Rattle.bh_model.specs.Trees.{in_octant, octree_from}
 use Rattle.bh_model.specs.declared.moment.Moment.{Moment}
 use Rattle.bh_plain.proofs.ListMoments.{fits_front, fits_one, moment_of_empty, moment_of_single, moment_of_split, moment_step, moment_upto, moment_upto-none}
 use Rattle.bh_plain.proofs.ListMoments.{octant_moments}
-use Rattle.bh_model.proofs.Splits.{octants_within, list_is_empty, list_has_some}
+use Rattle.bh_model.proofs.Splits.{octants_within, empty_or_deep, list_has_some}
 use Rattle.bh_plain.proofs.moments.+moment_of_part.Goals as goal
 
 pub returns-then-bodies-eq1 : goal.returns-then-bodies-eq1
@@ -16,8 +16,7 @@ returns-then-bodies-eq1 t c =
 
 pub returns-then-is_empty : goal.returns-then-is_empty
 returns-then-is_empty t c =
-    let why : (length c.args.bodies.now ≡ 0) ⊎ (c.args.level ≡ 21) =
-    elim c.then-is_empty.either [ inl e ↦ inl (list_is_empty (length c.args.bodies.now) c.is_empty.result c.is_empty.ensures e) | inr e ↦ inr e.1 ] in
+    let why = empty_or_deep _ c.args.level c.is_empty.result c.is_empty.ensures c.then-is_empty.either in
     c.none-sum.ensures
     ∙ sym (moment_of_empty (matter_by c.args.masses.now c.args.points.now) (λ n. get_or c.args.costs.now n 0) c.args.level c.args.bodies.now
     c.if-bodies-eq1.false why)

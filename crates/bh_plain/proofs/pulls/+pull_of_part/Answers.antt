@@ -1,4 +1,4 @@
-use Rattle.std.proofs.Common.{arith, ◌≡◌, ◌≢◌, ◌+◌, ◌-◌, ◌*◌, ◌^◌, ◌<◌, ◌⊎◌, ℕ, true, false, length, sym, subst, refl, ◌∙◌, ap, inl, inr}
+use Rattle.std.proofs.Common.{arith, ◌≡◌, ◌≢◌, ◌+◌, ◌-◌, ◌*◌, ◌^◌, ◌<◌, ℕ, true, false, length, sym, subst, refl, ◌∙◌, ap}
 use Rattle.octant_code.specs.Points.{site_at}
 use Rattle.octant_code.specs.Space.{IsInCube}
 use Rattle.bh_model.specs.Moments.{Matter, centre, centre_of, mass_of, matter_by}
@@ -12,7 +12,7 @@ use Rattle.bh_model.proofs.PullSums.{pull_step, pull_upto}
 use Rattle.bh_plain.proofs.ListPulls.{apart_same, centre_inside, widened, front_small, octant_pulls, one_small, part_child, part_key, part_moment, part_tree}
 use Rattle.bh_plain.proofs.ListPulls.{pull_of_empty, pull_of_single, pull_of_split, pull_of_whole, term_same, whole_told}
 use Rattle.bh_model.proofs.PullBounds.{whole_apart}
-use Rattle.bh_model.proofs.Splits.{list_is_empty, list_has_some}
+use Rattle.bh_model.proofs.Splits.{empty_or_deep, list_has_some}
 use Rattle.bh_plain.proofs.pulls.+pull_of_part.Goals as goal
 use Rattle.bh_plain.proofs.pulls.+pull_of_part.Goals.{In_ok-more}
 
@@ -24,8 +24,7 @@ returns-then-bodies-eq1 t c =
 
 pub returns-then-is_empty : goal.returns-then-is_empty
 returns-then-is_empty t c =
-    let why : (length c.args.bodies.now ≡ 0) ⊎ (c.args.level ≡ 21) =
-    elim c.then-is_empty.either [ inl e ↦ inl (list_is_empty (length c.args.bodies.now) c.is_empty.result c.is_empty.ensures e) | inr e ↦ inr e.1 ] in
+    let why = empty_or_deep _ c.args.level c.is_empty.result c.is_empty.ensures c.then-is_empty.either in
     c.none-sum.ensures
     ∙ sym (pull_of_empty c.args.law.now (matter_by c.args.masses.now c.args.points.now) c.args.n c.args.level c.args.key c.args.bodies.now
     c.if-bodies-eq1.false why)

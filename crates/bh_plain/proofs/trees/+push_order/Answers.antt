@@ -1,8 +1,8 @@
-use Rattle.std.proofs.Common.{arith, ◌≡◌, ◌≢◌, ◌++◌, ◌+◌, ◌-◌, ◌<◌, ◌⊎◌, length, sym, ◌∙◌, ap, inl, inr, append-nil}
+use Rattle.std.proofs.Common.{arith, ◌≡◌, ◌≢◌, ◌++◌, ◌+◌, ◌-◌, ◌<◌, length, sym, ◌∙◌, ap, append-nil}
 use Rattle.octant_code.specs.Points.{site_at}
 use Rattle.bh_model.specs.Trees.{in_octant, octree_from, order}
 use Rattle.bh_model.proofs.Lists.{joined}
-use Rattle.bh_model.proofs.Splits.{octant_orders, order_of_single, order_of_empty, order_of_split, joins_more, octants_within, list_is_empty, list_has_some}
+use Rattle.bh_model.proofs.Splits.{octant_orders, order_of_single, order_of_empty, order_of_split, joins_more, octants_within, empty_or_deep, list_has_some}
 use Rattle.bh_plain.proofs.trees.+push_order.Goals as goal
 
 pub returns-then-bodies-eq1 : goal.returns-then-bodies-eq1
@@ -13,8 +13,7 @@ returns-then-bodies-eq1 t c =
 
 pub returns-then-is_empty : goal.returns-then-is_empty
 returns-then-is_empty t c =
-    let why : (length c.args.bodies.now ≡ 0) ⊎ (c.args.level ≡ 21) =
-    elim c.then-is_empty.either [ inl e ↦ inl (list_is_empty (length c.args.bodies.now) c.is_empty.result c.is_empty.ensures e) | inr e ↦ inr e.1 ] in
+    let why = empty_or_deep _ c.args.level c.is_empty.result c.is_empty.ensures c.then-is_empty.either in
     sym (append-nil c.args.out.now.items)
     ∙ ap (λ y. c.args.out.now.items ++ y) (sym (order_of_empty (site_at c.args.points.now) c.args.level c.args.bodies.now c.if-bodies-eq1.false why))
 

@@ -1,8 +1,8 @@
-use Rattle.std.proofs.Common.{arith, ◌≡◌, ◌≢◌, ◌++◌, ◌∷◌, [], ◌+◌, ◌-◌, ◌<◌, ◌⊎◌, ℕ, List, length, sym, ◌∙◌, ap, inl, inr, decimal, get_or}
+use Rattle.std.proofs.Common.{arith, ◌≡◌, ◌≢◌, ◌++◌, ◌∷◌, [], ◌+◌, ◌-◌, ◌<◌, ℕ, List, length, sym, ◌∙◌, ap, decimal, get_or}
 use Rattle.octant_code.specs.Points.{site_at}
 use Rattle.bh_model.specs.Trees.{in_octant, octree_from, text}
 use Rattle.bh_model.proofs.Lists.{joined}
-use Rattle.bh_model.proofs.Splits.{octant_texts, text_of_single, text_of_empty, text_of_split, joins_more_text, appends_two, octants_within, list_is_empty}
+use Rattle.bh_model.proofs.Splits.{octant_texts, text_of_single, text_of_empty, text_of_split, joins_more_text, appends_two, octants_within, empty_or_deep}
 use Rattle.bh_model.proofs.Splits.{list_has_some}
 use Rattle.bh_plain.proofs.trees.+push_text.Goals as goal
 
@@ -19,8 +19,7 @@ returns-then-bodies-eq1 t c =
 
 pub returns-then-is_empty : goal.returns-then-is_empty
 returns-then-is_empty t c =
-    let why : (length c.args.bodies.now ≡ 0) ⊎ (c.args.level ≡ 21) =
-    elim c.then-is_empty.either [ inl e ↦ inl (list_is_empty (length c.args.bodies.now) c.is_empty.result c.is_empty.ensures e) | inr e ↦ inr e.1 ] in
+    let why = empty_or_deep _ c.args.level c.is_empty.result c.is_empty.ensures c.then-is_empty.either in
     c.in_ok-push-2.ensures.items
     ∙ ap (λ y. c.args.out.now.items ++ y) (sym (text_of_empty (site_at c.args.points.now) c.args.level c.args.bodies.now c.if-bodies-eq1.false why))
 
