@@ -98,7 +98,7 @@ pub ruleset depth_steps = (deepest_start, deepest_none, deepest_one, deepest_nex
 -- ---- cells
 
 -- the cells of the first k children, whatever the keys are
-lengths_upto : (g : ℕ → List ℕ) (h : ℕ → ℕ) (n : ℕ) → ((k : ℕ) → k < n → length (g k) ≡ h k) → length (joined g n) ≡ sum_upto h n
+pub lengths_upto : (g : ℕ → List ℕ) (h : ℕ → ℕ) (n : ℕ) → ((k : ℕ) → k < n → length (g k) ≡ h k) → length (joined g n) ≡ sum_upto h n
 lengths_upto g h zero same = sym (sum_upto-none h)
 lengths_upto g h (suc n) same =
     omega (

@@ -8,6 +8,7 @@ pub mod Cells
 pub mod Orders
 pub mod Splits
 pub mod Totals
+pub mod Moments
 pub mod AllBodies
 pub mod Standing
 pub mod Terms

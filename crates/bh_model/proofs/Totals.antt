@@ -1,7 +1,9 @@
 -- Totals of trees: over the children of a cell, and over the bodies in tree order.
-use Rattle.std.proofs.Common.{◌≡◌, ◌≤◌, ◌<◌, ◌+◌, ℕ, zero, suc, inl, inr, add-one, refl, ap, ◌∙◌, subst, arith, sum_by}
+use Rattle.std.proofs.Common.{◌≡◌, ◌≤◌, ◌<◌, ◌+◌, ◌*◌, ℕ, List, [], ◌∷◌, zero, suc, inl, inr, add-one, refl, ap, ◌∙◌, subst, arith, sum_by}
 use Rattle.std.proofs.lemmas.Bool.{cases_lt}
-use Rattle.std.proofs.lemmas.List.Sums.{sum_by-append}
+use Rattle.std.proofs.Math.Nat.{mul-le-mul_left}
+use Rattle.std.proofs.lemmas.List.Sums.{sum_by-append, sum_by-cons}
+use Rattle.bh_model.specs.Bodies.{IsIn}
 use Rattle.bh_model.specs.Trees.{Tree, Empty, Body, Cell, cell_of, order}
 use Rattle.bh_model.specs.Moments.{total}
 
@@ -60,6 +62,12 @@ unfolding sum_upto
 sum_upto-same f g zero same = refl
 sum_upto-same f g (suc n) same = omega (arith, sum_upto-same f g n (λ k h. same k (omega arith)), same n (omega arith))
 
+-- a sum of values none of which is more than so many times another
+pub sum_upto-times : (f g : ℕ → ℕ) (most n : ℕ) → ((k : ℕ) → k < n → f k ≤ most * g k) → sum_upto f n ≤ most * sum_upto g n
+unfolding sum_upto
+sum_upto-times f g most zero each = omega arith
+sum_upto-times f g most (suc n) each = omega (arith, sum_upto-times f g most n (λ k l. each k (omega arith)), each n (omega arith))
+
 -- the total of each kind of tree
 pub total-empty : (quantity : ℕ → ℕ) → total quantity Empty ≡ 0
 unfolding total
@@ -103,3 +111,22 @@ total-order quantity (Cell a b c d e f g h) =
       total-order quantity g,
       total-order quantity h,
     ))
+
+-- a sum of products is no more than the greatest factor times the sum
+pub sum_products : (mass place : ℕ → ℕ) (most : ℕ) (bodies : List ℕ) → ((n : ℕ) → IsIn bodies n → place n ≤ most)
+    → sum_by (λ n. mass n * place n) bodies ≤ most * sum_by mass bodies
+sum_products mass place most [] h = omega arith
+sum_products mass place most (x ∷ xs) h =
+    omega (
+      arith,
+      sum_by-cons (λ n. mass n * place n) x xs,
+      ap (λ y. most * y) (sum_by-cons mass x xs),
+      mul-le-mul_left (mass x) (h x (inl refl)),
+      sum_products mass place most xs (λ n i. h n (inr i)),
+    )
+
+-- so a total of products is no more than the greatest factor times the total
+pub total_products : (mass place : ℕ → ℕ) (most : ℕ) (tree : Tree) → ((n : ℕ) → IsIn (order tree) n → place n ≤ most)
+    → total (λ n. mass n * place n) tree ≤ most * total mass tree
+total_products mass place most tree h =
+    omega (arith, total-order (λ n. mass n * place n) tree, ap (λ y. most * y) (total-order mass tree), sum_products mass place most (order tree) h)
