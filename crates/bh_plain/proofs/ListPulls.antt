@@ -19,12 +19,12 @@ use Rattle.bh_model.proofs.AllBodies.{sum_of_some}
 use Rattle.bh_model.proofs.Cells.{in_octant-once, in_octant-under, member_of_all, placed_of_points}
 use Rattle.bh_model.proofs.Lists.{in_numbers, numbers_once}
 use Rattle.bh_model.proofs.Orders.{from_list}
-use Rattle.bh_plain.proofs.ListMoments.{bodies_in_cube, part_fits, sum_ones, sum_products, total_within}
+use Rattle.bh_plain.proofs.ListMoments.{bodies_in_cube, part_fits, sum_ones, total_within}
 use Rattle.bh_model.proofs.PullSums.{pull_step, pull_upto, sum_scaled, upto_small}
 use Rattle.bh_model.proofs.PullBounds.{points_apart, pull_fits, pull_small, pull-opened, pull-whole, small_add, small_more, small_none}
 use Rattle.bh_model.proofs.Splits.{empty_tree, octant_trees, octants_within, one_tree, split_tree}
 use Rattle.bh_model.proofs.Standing.{count_numbers, count_own, is_own, stands_of_list, sum_octants, total_own_other}
-use Rattle.bh_model.proofs.Totals.{sum_upto, sum_upto-le, sum_upto-term, total-order}
+use Rattle.bh_model.proofs.Totals.{sum_upto, sum_upto-le, sum_upto-term, total-order, total_products}
 
 -- ---- the pull of each kind of list
 
@@ -248,14 +248,10 @@ centre_inside sites masses level key bodies p =
     let tree : Tree = octree_from (site_at sites) (21 - level) level bodies in
     let cube : (n : ℕ) → IsIn (order tree) n
     → IsInCube (site_at sites n) = λ n i. bodies_in_cube sites bodies p.rule p.within n (from_list (site_at sites) (21 - level) level bodies n i) in
-    let mass = ap (λ y. (2 ^ 21 - 1) * y) (total-order m.mass tree) in
-    let bound : (place : ℕ → ℕ) → ((n : ℕ) → IsIn (order tree) n → place n ≤ 2 ^ 21 - 1)
-    → total (λ n. m.mass n * place n) tree ≤ (2 ^ 21 - 1) * total m.mass tree =
-    λ place h. omega (arith, mass, total-order (λ n. m.mass n * place n) tree, sum_products m.mass place (2 ^ 21 - 1) (order tree) h) in
     record {
-      x_fits = quotient_small _ _ (bound (λ n. (m.site n).x) (λ n i. omega (arith, (cube n i).x_fits)));
-      y_fits = quotient_small _ _ (bound (λ n. (m.site n).y) (λ n i. omega (arith, (cube n i).y_fits)));
-      z_fits = quotient_small _ _ (bound (λ n. (m.site n).z) (λ n i. omega (arith, (cube n i).z_fits)));
+      x_fits = quotient_small _ _ (total_products m.mass (λ n. (m.site n).x) (2 ^ 21 - 1) tree (λ n i. omega (arith, (cube n i).x_fits)));
+      y_fits = quotient_small _ _ (total_products m.mass (λ n. (m.site n).y) (2 ^ 21 - 1) tree (λ n i. omega (arith, (cube n i).y_fits)));
+      z_fits = quotient_small _ _ (total_products m.mass (λ n. (m.site n).z) (2 ^ 21 - 1) tree (λ n i. omega (arith, (cube n i).z_fits)));
     }
 
 -- a pull of the bodies of a list is small enough to be added

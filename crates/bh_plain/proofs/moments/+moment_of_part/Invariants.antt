@@ -1,10 +1,10 @@
 use Rattle.std.proofs.Common.{◌≡◌, ◌-◌, get_or}
 use Rattle.bh_model.specs.Moments.{matter_by}
-use Rattle.bh_plain.proofs.ListMoments.{moment_upto, octant_moments}
+use Rattle.bh_plain.proofs.ListMoments.{octants_upto}
 use Rattle.bh_plain.proofs.moments.+moment_of_part.Given as goal
 
 abbrev pub decreases-moment_of_part : goal.decreases-moment_of_part
 decreases-moment_of_part l = 21 - l.level
 
 abbrev pub invariant-loop-k : goal.invariant-loop-k
-invariant-loop-k l = l.sum ≡ moment_upto (octant_moments (matter_by l.masses l.points) (λ n. get_or l.costs n 0) l.level l.bodies) l.k
+invariant-loop-k l = l.sum ≡ octants_upto (matter_by l.masses l.points) (λ n. get_or l.costs n 0) l.level l.bodies l.k
