@@ -2,7 +2,7 @@
 use Rattle.std.proofs.Common.{ℕ, ◌<◌, ◌≤◌, ◌≡◌, zero, suc, refl, sym, ◌∙◌, add-one, ap, arith, List, [], length, length-append}
 use Rattle.octant_code.proofs.Keys.{pow8-mono}
 use Rattle.bh_model.proofs.Lists.{joined}
-use Rattle.bh_model.proofs.Folds.{count_none, count_one, counts, counts_all, counts_next, counts_start}
+use Rattle.bh_model.proofs.Folds.{count_none, count_one, counts, counts_all, counts_next, counts_start, lengths_upto}
 use Rattle.bh_model.specs.Trees.{Empty, Tree, cell_count}
 use Rattle.tree_rule.specs.Sound.{HereAs, IsReachedAs}
 use Rattle.tree_rule.specs.Words.{at_of, cell_word, cells_from, child_place, tree_from}
@@ -34,16 +34,8 @@ cells_few o h =
 
 -- lists as long as the children have cells, joined
 joined_counts : (g : ℕ → List ℕ) (f : ℕ → Tree) (n : ℕ) → ((k : ℕ) → k < n → length (g k) ≡ cell_count (f k)) → length (joined g n) ≡ counts f n
-joined_counts g f zero same = sym (counts_start f)
-joined_counts g f (suc n) same =
-    omega (
-      arith,
-      length-append (joined g n) (g n),
-      joined_counts g f n (λ k l. same k (omega arith)),
-      same n (omega arith),
-      counts_next f (f n) n refl,
-      ap (counts f) (add-one n),
-    )
+unfolding counts
+joined_counts g f n same = lengths_upto g (λ k. cell_count (f k)) n same
 
 -- a word has as many cells as its tree
 count_of_tree : (at : ℕ → ℕ) (below w : ℕ) → WordIs w → length (cells_from at below w) ≡ cell_count (tree_from at below w)

@@ -1,13 +1,23 @@
 -- The laws of octrees for proofs of the crates above.
-use Rattle.std.proofs.Common.{ℕ, ◌<◌, sym, subst}
-use Rattle.bh_model.proofs.Orders.{body_in_order, child_in_order}
+use Rattle.std.proofs.Common.{ℕ, ◌<◌, List, length, sym, subst}
+use Rattle.octant_code.specs.Points.{site_at}
+use Rattle.octant_code.specs.Space.{Site}
+use Rattle.bh_model.proofs.Orders.{body_in_order, child_in_order, numbers_in_order}
 use Rattle.bh_model.specs.Bodies.{IsIn}
 use Rattle.bh_model.specs.Trees.{Tree, order}
 use Rattle.octree.specs.Spot.{Spot, child_under, tree_under}
+use Rattle.octree.specs.Stored.{IsOctreeOf, Stored, tree_of}
 use Rattle.octree.specs.Subtree.{IsBodyAt, IsCellAt, IsChildOf}
-pub use Rattle.octree.proofs.Subtrees.{child_height, child_octree}
+pub use Rattle.octree.proofs.Subtrees.{bodies_of_tree, child_height, child_octree}
+-- nothing is read below an empty root word, and the whole cube is of level 0
+pub use Rattle.octree.proofs.ReadWords.{reached_blank}
+pub use Rattle.octree.proofs.WholeWords.{whole_level}
 -- two bodies in one cube
 pub use Rattle.octree.proofs.Chains.{octant_under, pair_cube, pair_deeper}
+
+-- each body of the octree of all points is the number of a point
+pub body_known : (sites : List Site) (o : Stored) (n : ℕ) → IsOctreeOf sites o → IsIn (order (tree_of o)) n → n < length sites
+body_known sites o n rule i = numbers_in_order (site_at sites) (length sites) n (subst (λ (t : Tree). IsIn (order t) n) rule.tree i)
 
 -- the body of a subtree of one body
 pub top_body_inside : (s : Spot) (n : ℕ) → IsBodyAt s n → IsIn (order (tree_under s)) n
