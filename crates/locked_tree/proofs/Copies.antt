@@ -9,7 +9,8 @@ use Rattle.tree_rule.specs.Words.{HasBody, HasCell, IsReached, at_of, body_word,
 use Rattle.tree_rule.specs.Sound.{BodiesUnder}
 use Rattle.tree_rule.proofs.Laws.{bodies_of_stands}
 use Rattle.octree.specs.Stored.{AreOctreeWords, IsBlankFrom, tree_with_used, word_count}
-use Rattle.tree_passes.specs.declared.view.TheConstants.{POOL_PLACE, ROW_WORDS}
+use Rattle.tree_passes.specs.declared.view.TheConstants.{ROW_WORDS}
+use Rattle.tree_rule.specs.declared.words.TheConstants.{POOL_PLACE}
 use Rattle.tree_passes.specs.Opening.{Opening}
 use Rattle.tree_passes.specs.Ends.{AreGivenOut, IsClosed}
 use Rattle.tree_passes.proofs.Laws.{closed_moved, octree_of_closed}

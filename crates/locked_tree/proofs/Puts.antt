@@ -7,11 +7,10 @@ use Rattle.octant_code.specs.declared.limits.TheConstants.{LEVELS}
 use Rattle.octant_code.specs.Space.{Site, key_of, octant_of}
 use Rattle.octant_code.specs.Points.{site_at, ArePoints}
 use Rattle.octant_code.proofs.Keys.{key-suc, key-zero}
-use Rattle.tree_rule.specs.declared.words.TheConstants.{CELLS_OF_ONE, MOST_CELLS}
+use Rattle.tree_rule.specs.declared.words.TheConstants.{CELLS_OF_ONE, MOST_CELLS, POOL_PLACE, ROOT_LOCK}
 use Rattle.tree_rule.specs.Words.{child_place, lock_place}
 use Rattle.tree_rule.proofs.Laws.{ACell, NoBody, OneBody, WordIs, word_is}
 use Rattle.octree.specs.Stored.{word_count}
-use Rattle.tree_passes.specs.declared.view.TheConstants.{POOL_PLACE, ROOT_LOCK}
 use Rattle.tree_passes.specs.declared.view.View.{View}
 use Rattle.tree_passes.specs.Counting.{same, times, Has, without}
 use Rattle.tree_passes.specs.Locks.{IsLock, IsLockOf, OfChild, OfRoot, CellsLock, RootsLock}

@@ -6,11 +6,10 @@ use Rattle.octant_code.specs.Space.{Site}
 use Rattle.octant_code.specs.Points.{ArePoints, site_at}
 use Rattle.octant_code.specs.declared.limits.TheConstants.{MOST_BODIES}
 use Rattle.bh_model.specs.Bodies.{IsIn, NoneTwice}
-use Rattle.tree_rule.specs.declared.words.TheConstants.{MOST_CELLS}
+use Rattle.tree_rule.specs.declared.words.TheConstants.{MOST_CELLS, POOL_PLACE}
 use Rattle.tree_rule.specs.Words.{HasBody, HasCell, IsReached, at_of, body_word, cell_word, lock_place}
 use Rattle.tree_rule.specs.Sound.{BodiesUnder, IsSound}
 use Rattle.octree.specs.Stored.{AreOctreeWords, IsBlankFrom, IsCanonical, IsStored, Stored, word_count}
-use Rattle.tree_passes.specs.declared.view.TheConstants.{POOL_PLACE}
 use Rattle.tree_passes.specs.Counting.{numbers_from}
 use Rattle.tree_passes.specs.Opening.{fresh_view}
 use Rattle.tree_passes.specs.Ends.{CanOpen, CanPool}

@@ -3,10 +3,9 @@ use Rattle.std.specs.Prelude.{ℕ, ◌≡◌, ◌+◌, ◌<◌, ◌≤◌, List,
 use Rattle.octant_code.specs.declared.limits.TheConstants.{LEVELS}
 use Rattle.octant_code.specs.Space.{Site, key_of}
 use Rattle.octant_code.specs.Points.{site_at, ArePoints}
-use Rattle.tree_rule.specs.declared.words.TheConstants.{CELLS_OF_ONE, MOST_CELLS}
+use Rattle.tree_rule.specs.declared.words.TheConstants.{CELLS_OF_ONE, MOST_CELLS, POOL_PLACE}
 use Rattle.tree_rule.specs.Words.{lock_place}
 use Rattle.octree.specs.Stored.{word_count}
-use Rattle.tree_passes.specs.declared.view.TheConstants.{POOL_PLACE}
 use Rattle.tree_passes.specs.declared.view.View.{View}
 use Rattle.tree_passes.specs.Counting.{times, without}
 use Rattle.tree_passes.specs.Locks.{IsLockOf}

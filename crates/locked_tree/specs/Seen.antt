@@ -4,9 +4,8 @@ use Rattle.atomic_table.specs.Seated.{TableId}
 use Rattle.octant_code.specs.Space.{Site}
 use Rattle.octant_code.specs.Points.{ArePoints}
 use Rattle.octant_code.specs.declared.limits.TheConstants.{MOST_BODIES}
-use Rattle.tree_rule.specs.declared.words.TheConstants.{CELLS_OF_ONE, MOST_CELLS}
+use Rattle.tree_rule.specs.declared.words.TheConstants.{CELLS_OF_ONE, MOST_CELLS, POOL_PLACE}
 use Rattle.octree.specs.Stored.{word_count}
-use Rattle.tree_passes.specs.declared.view.TheConstants.{POOL_PLACE}
 use Rattle.tree_passes.specs.declared.view.View.{View}
 use Rattle.tree_passes.specs.Counting.{times}
 use Rattle.tree_passes.specs.Making.{IsReady}

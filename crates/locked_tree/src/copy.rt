@@ -11,8 +11,8 @@ ghost use Rattle.locked_tree.specs.Ends.{AreCopied, IsRowCopied, IsTreeAtEnd};
 use atomic_table::Closed;
 use octree::Octree;
 use std::alloc::Global;
-use tree_passes::{POOL_PLACE, Pass, ROOT_LOCK, ROW_WORDS, Tree, close};
-use tree_rule::{place_of_child, place_of_lock};
+use tree_passes::{Pass, ROW_WORDS, Tree, close};
+use tree_rule::{POOL_PLACE, ROOT_LOCK, place_of_child, place_of_lock};
 
 // Copies the words of one cell, but for its lock, which becomes 0.
 #[inline]

@@ -5,14 +5,13 @@ ghost use Rattle.octant_code.specs.declared.limits.TheConstants.{LEVELS};
 ghost use Rattle.octant_code.specs.Space.{key_of};
 ghost use Rattle.octant_code.specs.Points.{site_at};
 ghost use Rattle.octree.specs.Stored.{word_count};
-ghost use Rattle.tree_passes.specs.declared.view.TheConstants.{POOL_PLACE};
 ghost use Rattle.tree_passes.specs.declared.view.Writing.TheVariants.{UnderLocks};
 ghost use Rattle.tree_passes.specs.Counting.{Has, times};
 ghost use Rattle.tree_passes.specs.Locks.{IsLock};
 ghost use Rattle.tree_passes.specs.Making.{cells_between, IsReady};
 ghost use Rattle.tree_passes.specs.Turns.{IsInserted, IsThere};
 ghost use Rattle.tree_rule.specs.Words.{body_word};
-ghost use Rattle.tree_rule.specs.declared.words.TheConstants.{CELLS_OF_ONE, MOST_CELLS};
+ghost use Rattle.tree_rule.specs.declared.words.TheConstants.{CELLS_OF_ONE, MOST_CELLS, POOL_PLACE};
 ghost use Rattle.locked_tree.specs.declared.tree.Pool.TheVariants as pool_is;
 ghost use Rattle.locked_tree.specs.Seen.{HasStock};
 ghost use Rattle.locked_tree.specs.Inserting.{HasDrawn, IsAt, IsPutIn, LeadsTo};
@@ -23,11 +22,12 @@ use std::hint;
 use std::sync::Wait;
 use std::thread::yield_now;
 use tree_passes::{
-    Cube, Pass, ROOT_LOCK, Words, cells_to_part, draw_cell, load, load_locked, part_two,
-    store_locked, try_lock, unlock,
+    Cube, Pass, Words, cells_to_part, draw_cell, load, load_locked, part_two, store_locked,
+    try_lock, unlock,
 };
 use tree_rule::{
-    CELLS_OF_ONE, Named, named_by, place_of_child, place_of_lock, word_of_body, word_of_cell,
+    CELLS_OF_ONE, Named, ROOT_LOCK, named_by, place_of_child, place_of_lock, word_of_body,
+    word_of_cell,
 };
 
 // How often a lock is tried before other threads are let run.

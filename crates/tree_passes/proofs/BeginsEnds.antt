@@ -15,7 +15,7 @@ use Rattle.tree_rule.specs.Flat.{StandsFor}
 use Rattle.tree_rule.specs.Locks.{AreUnlocked}
 use Rattle.tree_rule.proofs.Laws.{body_reached, cell_reached, sound_of_stands, stands_moved, stands_of_sound, stands_same}
 use Rattle.octree.specs.Stored.{AreOctreeWords, word_count}
-use Rattle.tree_passes.specs.declared.view.TheConstants.{POOL_PLACE}
+use Rattle.tree_rule.specs.declared.words.TheConstants.{POOL_PLACE}
 use Rattle.tree_passes.specs.declared.view.View.{View}
 use Rattle.tree_passes.specs.declared.view.Writing.{Writing}
 use Rattle.tree_passes.specs.declared.view.Writing.TheVariants.{ByExchange, UnderLocks}

@@ -11,7 +11,7 @@ use Rattle.tree_rule.specs.Flat.{StandsFor}
 use Rattle.tree_rule.specs.Sound.{HereAs}
 use Rattle.tree_rule.proofs.Laws.{cells_complete, cells_once, exact_of_stands, flat_gives_canonical, order_has_none_twice, order_members, place_kept}
 use Rattle.tree_rule.proofs.Laws.{sound_of_stands, stands_same, word_is}
-use Rattle.tree_passes.specs.declared.view.TheConstants.{POOL_PLACE}
+use Rattle.tree_rule.specs.declared.words.TheConstants.{POOL_PLACE}
 use Rattle.tree_passes.specs.declared.view.View.{View}
 use Rattle.tree_passes.specs.declared.view.Writing.{Writing}
 use Rattle.tree_passes.specs.declared.view.Writing.TheVariants.{ByExchange, UnderLocks}

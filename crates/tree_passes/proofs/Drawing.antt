@@ -7,9 +7,9 @@ use mathlib.Core.Logic.{dite}
 use native.Mathlib.Decide.{ℕ_discrete}
 use lib.ListN.{get_elem?}
 use Rattle.atomic_table.specs.Table.{Allows, State, keeps, step}
-use Rattle.tree_rule.specs.declared.words.TheConstants.{MOST_CELLS}
+use Rattle.tree_rule.specs.declared.words.TheConstants.{MOST_CELLS, POOL_PLACE}
 use Rattle.tree_rule.specs.Words.{at_of, child_place, lock_place}
-use Rattle.tree_passes.specs.declared.view.TheConstants.{POOL_PLACE, ROW_WORDS}
+use Rattle.tree_passes.specs.declared.view.TheConstants.{ROW_WORDS}
 use Rattle.tree_passes.specs.declared.view.View.{View}
 use Rattle.tree_passes.specs.Counting.{same, sum_of, times}
 use Rattle.tree_passes.specs.Opening.{Opening}

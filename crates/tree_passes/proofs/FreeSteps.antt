@@ -7,7 +7,7 @@ use prog.Atomic.{either}
 use Rattle.atomic_table.specs.Table.{Allows, State, keeps, step, stepped}
 use Rattle.tree_rule.specs.Words.{at_of, lock_place}
 use Rattle.tree_rule.specs.Flat.{ChildPlace, IsPlaceOf, TopPlace}
-use Rattle.tree_passes.specs.declared.view.TheConstants.{POOL_PLACE}
+use Rattle.tree_rule.specs.declared.words.TheConstants.{POOL_PLACE}
 use Rattle.tree_passes.specs.declared.view.View.{View}
 use Rattle.tree_passes.specs.Opening.{Opening}
 use Rattle.tree_passes.specs.Passes.{after_publication, given_part, IsCell, joined, kept_part, KnowsPlace, spent}

@@ -6,7 +6,7 @@ use Rattle.atomic_table.specs.Table.{Joins, Splits, State}
 use Rattle.octant_code.specs.Space.{Site}
 use Rattle.tree_rule.specs.Words.{at_of}
 use Rattle.tree_rule.specs.Flat.{IsPlaceOf}
-use Rattle.tree_passes.specs.declared.view.TheConstants.{POOL_PLACE}
+use Rattle.tree_rule.specs.declared.words.TheConstants.{POOL_PLACE}
 use Rattle.tree_passes.specs.declared.view.View.{View}
 use Rattle.tree_passes.specs.Counting.{times}
 use Rattle.tree_passes.specs.Opening.{Opening}

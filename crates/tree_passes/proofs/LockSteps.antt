@@ -8,7 +8,7 @@ use prog.Atomic.{either}
 use lib.ListN.{get_elem?}
 use Rattle.atomic_table.specs.Table.{Allows, State, keeps, step, stepped}
 use Rattle.tree_rule.specs.Words.{at_of, child_place, key_place}
-use Rattle.tree_passes.specs.declared.view.TheConstants.{POOL_PLACE}
+use Rattle.tree_rule.specs.declared.words.TheConstants.{POOL_PLACE}
 use Rattle.tree_passes.specs.declared.view.View.{View}
 use Rattle.tree_passes.specs.Counting.{sum_of, times}
 use Rattle.tree_passes.specs.Opening.{Opening}

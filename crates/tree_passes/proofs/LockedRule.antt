@@ -4,7 +4,7 @@ use mathlib.Core.Option.{some}
 use lib.ListN.{get_elem?}
 use Rattle.atomic_table.specs.Table.{State}
 use Rattle.tree_rule.specs.Words.{at_of}
-use Rattle.tree_passes.specs.declared.view.TheConstants.{POOL_PLACE}
+use Rattle.tree_rule.specs.declared.words.TheConstants.{POOL_PLACE}
 use Rattle.tree_passes.specs.declared.view.View.{View}
 use Rattle.tree_passes.specs.Counting.{Has, sum_of, times}
 use Rattle.tree_passes.specs.Opening.{Opening}

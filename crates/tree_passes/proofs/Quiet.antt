@@ -13,7 +13,8 @@ use Rattle.tree_rule.specs.declared.notes.BodyNote.{BodyNote}
 use Rattle.tree_rule.specs.declared.notes.CellNote.{CellNote}
 use Rattle.tree_rule.specs.Words.{at_of, body_word, child_place}
 use Rattle.tree_rule.proofs.Laws.{ACell, NoBody, OneBody, WordIs, word_is}
-use Rattle.tree_passes.specs.declared.view.TheConstants.{POOL_PLACE, ROW_WORDS}
+use Rattle.tree_passes.specs.declared.view.TheConstants.{ROW_WORDS}
+use Rattle.tree_rule.specs.declared.words.TheConstants.{POOL_PLACE}
 use Rattle.tree_passes.specs.declared.view.Told.{Told}
 use Rattle.tree_passes.specs.declared.view.View.{View}
 use Rattle.tree_passes.specs.Counting.{times}

@@ -8,7 +8,8 @@ use Rattle.bh_model.specs.Bodies.{IsIn}
 use Rattle.bh_model.specs.Trees.{octree}
 use Rattle.tree_rule.specs.Words.{at_of, child_place, tree_from}
 use Rattle.tree_rule.specs.Standing.{IsPublished, NamesExactly}
-use Rattle.tree_passes.specs.declared.view.TheConstants.{POOL_PLACE, ROW_WORDS}
+use Rattle.tree_passes.specs.declared.view.TheConstants.{ROW_WORDS}
+use Rattle.tree_rule.specs.declared.words.TheConstants.{POOL_PLACE}
 use Rattle.tree_passes.specs.declared.view.View.{View}
 use Rattle.tree_passes.specs.declared.view.Writing.{Writing}
 use Rattle.tree_passes.specs.declared.view.Writing.TheVariants.{ByExchange, UnderLocks}

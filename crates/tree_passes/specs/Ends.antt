@@ -4,12 +4,11 @@ use Rattle.octant_code.specs.declared.limits.TheConstants.{MOST_BODIES}
 use Rattle.octant_code.specs.Space.{Site}
 use Rattle.octant_code.specs.Points.{site_at, ArePoints}
 use Rattle.bh_model.specs.Bodies.{IsIn, NoneTwice}
-use Rattle.tree_rule.specs.declared.words.TheConstants.{MOST_CELLS}
+use Rattle.tree_rule.specs.declared.words.TheConstants.{MOST_CELLS, POOL_PLACE}
 use Rattle.tree_rule.specs.Words.{at_of, key_place, lock_place, HasBody, HasCell}
 use Rattle.tree_rule.specs.Locks.{AreUnlocked}
 use Rattle.tree_rule.specs.Sound.{BodiesUnder}
 use Rattle.octree.specs.Stored.{AreOctreeWords, StandsWell, word_count}
-use Rattle.tree_passes.specs.declared.view.TheConstants.{POOL_PLACE}
 use Rattle.tree_passes.specs.Opening.{Opening}
 
 -- The words of a canonical octree, bodies that it has not, and cells of the table that it does not reach.

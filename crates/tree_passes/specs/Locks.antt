@@ -5,7 +5,7 @@ use lib.ListN.{get_elem?}
 use Rattle.atomic_table.specs.Table.{State}
 use Rattle.tree_rule.specs.Words.{at_of, child_place, lock_place, HasCell}
 use Rattle.octree.specs.Stored.{word_count}
-use Rattle.tree_passes.specs.declared.view.TheConstants.{POOL_PLACE, ROOT_LOCK}
+use Rattle.tree_rule.specs.declared.words.TheConstants.{POOL_PLACE, ROOT_LOCK}
 use Rattle.tree_passes.specs.declared.view.View.{View}
 use Rattle.tree_passes.specs.Counting.{times, sum_of, Has}
 use Rattle.tree_passes.specs.Opening.{Opening}

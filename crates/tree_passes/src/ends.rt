@@ -2,18 +2,19 @@
 
 ghost use Rattle.std.specs.Prelude.{◌≡◌, ℕ, [], ◌+◌, length, slice_set, IfOk};
 ghost use Rattle.std.specs.Slots.{slots_items, slots_len, IsFull};
-ghost use Rattle.tree_passes.specs.declared.view.TheConstants.{POOL_PLACE};
+ghost use Rattle.tree_rule.specs.declared.words.TheConstants.{POOL_PLACE};
 ghost use Rattle.tree_passes.specs.declared.view.Writing.TheVariants.{ByExchange, UnderLocks};
 ghost use Rattle.tree_passes.specs.Counting.{times};
 ghost use Rattle.tree_passes.specs.Opening.{fresh_view, opening_of};
 ghost use Rattle.tree_passes.specs.Ends.{AreGivenOut, CanOpen, CanPool, IsClosed, NoneLocked};
 
 use crate::rule::{Pass, TreeRule};
-use crate::view::{POOL_PLACE, Told, View, Writing};
+use crate::view::{Told, View, Writing};
 use atomic_table::{Closed, Table};
 use octant_code::{OutOfMemory, Points};
 use std::alloc::Global;
 use std::snapshot::Snapshot;
+use tree_rule::POOL_PLACE;
 
 /// A shared tree with the memory of its words.
 pub type Tree = Table<(), View, Told, TreeRule, Global>;

@@ -20,4 +20,4 @@ pub use loads::{counted_load, counted_seek, load, seek};
 pub use locks::{draw_cell, load_locked, store_locked, try_lock, unlock};
 pub use parts::{join_passes, split_pass};
 pub use rule::{Pass, TreeRule, Words, between_steps};
-pub use view::{KEY_PART, POOL_PLACE, ROOT_LOCK, ROW_WORDS, Told, View, Writing};
+pub use view::{KEY_PART, ROW_WORDS, Told, View, Writing};

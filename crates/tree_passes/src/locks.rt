@@ -10,8 +10,8 @@ ghost use Rattle.tree_passes.specs.Plays.{changed, IsDrawn, IsReadyFor, LookedUn
 
 use crate::plays::{Acquire, Batch, Draw, LookUnder, Put, Release};
 use crate::rule::{Pass, Words};
-use crate::view::POOL_PLACE;
 use std::marker::Brand;
+use tree_rule::POOL_PLACE;
 
 /// Tries once to take the lock whose word stands at a place. A pass holds at most one.
 #[inline]

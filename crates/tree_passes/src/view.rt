@@ -12,12 +12,6 @@ pub const KEY_PART: u32 = 8;
 /// How many words of a cell a pass writes before it publishes the cell.
 pub const ROW_WORDS: u32 = KEY_PART + 1;
 
-/// The place of the root word's lock.
-pub const ROOT_LOCK: usize = 1;
-
-/// The place of the pool word, the number of the next cell that was never given out.
-pub const POOL_PLACE: usize = 2;
-
 /// What a pass knows and has. No value of it is made: contracts and the rule of the words see it.
 pub struct View {
     /// The points of the bodies.

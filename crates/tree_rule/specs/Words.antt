@@ -1,5 +1,5 @@
 -- The words of an octree: where they stand, what each names, and the tree that they stand for.
--- Word 0 is the root's, and the cells' words stand behind the first three: of each its eight children's, its key and its lock.
+-- Word 0 is the root's, its lock and the pool word follow, and then each cell's words: its eight children's, its key and its lock.
 use Rattle.std.specs.Prelude.{ℕ, ◌+◌, ◌-◌, ◌*◌, ◌/◌, ◌%◌, ◌<◌, ◌≡◌, zero, suc, cond, eqb, List, [], ◌∷◌, ◌++◌, slice_index}
 use Rattle.bh_model.specs.Trees.{Tree, Empty, Body, cell_of}
 use Rattle.tree_rule.specs.declared.words.TheConstants.{CELL_WORDS, FIRST_PLACE, KEY_PLACE, LOCK_PLACE}

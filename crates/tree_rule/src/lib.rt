@@ -18,6 +18,6 @@ pub use theorems::{
     more_witnesses, words_name_what_is_read,
 };
 pub use words::{
-    CELL_WORDS, CELLS_OF_ONE, FIRST_PLACE, KEY_PLACE, LOCK_PLACE, MOST_CELLS, Named, named_by,
-    place_of_child, place_of_key, place_of_lock, word_of_body, word_of_cell,
+    CELL_WORDS, CELLS_OF_ONE, FIRST_PLACE, KEY_PLACE, LOCK_PLACE, MOST_CELLS, Named, POOL_PLACE,
+    ROOT_LOCK, named_by, place_of_child, place_of_key, place_of_lock, word_of_body, word_of_cell,
 };

@@ -12,8 +12,14 @@ pub const CELLS_OF_ONE: u32 = LEVELS;
 /// The most cells that an octree may hold, 1,376,256.
 pub const MOST_CELLS: u32 = CELLS_OF_ONE * MOST_BODIES;
 
-/// The place of the first cell's words. The root word stands before them at place 0.
-pub const FIRST_PLACE: usize = 3;
+/// The place of the root word's lock, behind the root word at place 0.
+pub const ROOT_LOCK: usize = 1;
+
+/// The place of the pool word, the number of the next cell that was never given out.
+pub const POOL_PLACE: usize = 2;
+
+/// The place of the first cell's words.
+pub const FIRST_PLACE: usize = POOL_PLACE + 1;
 
 /// How many words a cell has: those of its eight children, its key and its lock.
 pub const CELL_WORDS: usize = 10;

@@ -1,7 +1,7 @@
 use Rattle.std.proofs.Common.{◌≡◌, ◌≤◌, ◌++◌, ℕ, List, ap, sym, subst, ◌∙◌, length, take, drop, arith}
 use Rattle.std.specs.Slots.{slots_items}
 use Rattle.octree.specs.Stored.{AreOctreeWords, IsBlankFrom, Stored, tree_with_used, word_count}
-use Rattle.tree_passes.specs.declared.view.TheConstants.{POOL_PLACE}
+use Rattle.tree_rule.specs.declared.words.TheConstants.{POOL_PLACE}
 use Rattle.tree_passes.specs.Opening.{opening_of}
 use Rattle.locked_tree.specs.Ends.{AreCopied, IsTreeAtEnd}
 use Rattle.locked_tree.proofs.Copies.{AreBack, are_back, told_at, tree_at_end, written_back}
