@@ -3,29 +3,17 @@ use Rattle.std.proofs.Common.{ℕ, ◌-◌, ◌<◌, ◌≡◌, ◌↔◌, ◌�
 use Rattle.std.proofs.lemmas.Bool.{cases_lt}
 use Rattle.octant_code.specs.Space.{Site}
 use Rattle.octant_code.specs.Points.{site_at}
-use Rattle.octant_code.proofs.Keys.{pow8-mono}
 use Rattle.bh_model.specs.Bodies.{IsIn, NoneTwice, numbers}
 use Rattle.bh_model.specs.Trees.{octree_from, order}
 use Rattle.bh_model.proofs.Lists.{in_numbers, numbers_once}
 use Rattle.tree_rule.proofs.Laws.{forget}
-use Rattle.tree_rule.specs.Words.{at_of, body_word, cell_word, Below, HasBody, Here, IsReached}
+use Rattle.tree_rule.specs.Words.{at_of, body_word, HasBody}
+use Rattle.octree.proofs.Laws.{reached_blank, whole_level}
 use Rattle.octree.specs.Stored.{IsCanonical, IsOctreeOf, IsStored, Stored, tree_of}
 use Rattle.tree_passes.specs.Opening.{Opening}
 use Rattle.tree_passes.proofs.Laws.{in_times, times_in}
 use Rattle.locked_tree.specs.Ends.{IsTreeAtEnd}
 use Rattle.orig_build.proofs.Sharing.{HasEach}
-
--- nothing is read below an empty first word
-reached_blank : (at : ℕ → ℕ) (top w : ℕ) → top ≡ 0 → IsReached at top w → w ≡ 0
-reached_blank at top _ e (Here w f) = f ∙ e
-reached_blank at top _ e (Below c k w r l f) = absurd (omega (arith, reached_blank at top (cell_word c) e r))
-
--- the whole cube is of level 0
-whole_level : (o : Stored) → IsStored o → o.base ≡ 1 → o.level ≡ 0
-whole_level o h one = elim (cases_lt o.level 1) [
-  | inl l ↦ omega arith
-  | inr l ↦ absurd (omega (arith, h.base_low, pow8-mono 1 o.level l))
-]
 
 -- a tree that was opened empty has the bodies that were put in
 bodies_put : (o : Opening) (count : ℕ) (done seen : List ℕ) (t : Stored) → IsTreeAtEnd o done seen t → at_of o.words 0 ≡ 0 → HasEach count done
