@@ -1,15 +1,15 @@
 -- The moments of trees of a scene's bodies have their bounds.
 use Rattle.std.proofs.Common.{ℕ, ◌<◌, ◌^◌, ◌*◌, ◌≤◌, ◌≡◌, ap, ◌∙◌, arith, subst, sym, inl, inr, List, length, All}
 use Rattle.std.proofs.lemmas.Bool.{cases_lt}
-use Rattle.std.proofs.lemmas.List.{get_or_past}
+use Rattle.std.proofs.lemmas.List.{get_or-map, get_or_past}
 use Rattle.std.proofs.lemmas.List.Elements.{All-get_or}
-use Rattle.std.proofs.Math.Nat.{mul-le-mul_left}
 use Rattle.bh_model.proofs.AllBodies.{octree_total_le, sum_numbers, sum_places, sum_upto-most}
 use Rattle.bh_model.proofs.Lists.{numbers_once}
-use Rattle.bh_model.proofs.Totals.{sum_upto}
+use Rattle.bh_model.proofs.Moments.{gathered_same}
+use Rattle.bh_model.proofs.Totals.{sum_upto, total-body, total_products}
 use Rattle.bh_model.specs.Bodies.{numbers}
-use Rattle.bh_model.specs.Moments.{FitsWords, moment, total}
-use Rattle.bh_model.specs.Trees.{Tree, Empty, Body, Cell, octree}
+use Rattle.bh_model.specs.Moments.{FitsWords, moment, moment_of_body, total}
+use Rattle.bh_model.specs.Trees.{Tree, Body, octree}
 use Rattle.octant_code.specs.Points.{site_at}
 use Rattle.octant_code.specs.Space.{IsInCube, Site, origin}
 use Rattle.scene_file.specs.Bodies.{AreBodies, body_at, nobody, sites_of}
@@ -18,23 +18,13 @@ use Rattle.mass_moments.specs.Filling.{AreProductsInCube}
 use Rattle.bh_model.specs.Zones.{IsCost, cost_at}
 use Rattle.mass_moments.specs.Kept.{matter_of}
 
--- a total of numbers none of which is more than so many times another
-total_times : (f g : ℕ → ℕ) (most : ℕ) → ((n : ℕ) → f n ≤ most * g n) → (t : Tree) → total f t ≤ most * total g t
-unfolding total
-total_times f g most each Empty = omega arith
-total_times f g most each (Body n) = each n
-total_times f g most each (Cell a b c d e f' g' h) =
-    omega (
-      arith,
-      total_times f g most each a,
-      total_times f g most each b,
-      total_times f g most each c,
-      total_times f g most each d,
-      total_times f g most each e,
-      total_times f g most each f',
-      total_times f g most each g',
-      total_times f g most each h,
-    )
+-- the moment of a body of a list
+pub moment_listed : (bodies : List BodyOf) (costs : List ℕ) (n : ℕ) (body : BodyOf) → n < length bodies → body ≡ body_at bodies n
+    → moment_of_body body.mass body.at (cost_at costs n) ≡ moment (matter_of bodies) (cost_at costs) (Body n)
+moment_listed bodies costs n body within is =
+    ap (λ (b : BodyOf). moment_of_body b.mass b.at (cost_at costs n)) is
+    ∙ ap (λ (s : Site). moment_of_body (body_at bodies n).mass s (cost_at costs n)) (sym (get_or-map (λ (b : BodyOf). b.at) bodies n nobody nobody.at within))
+    ∙ gathered_same (λ q. q n) (λ q. total q (Body n)) (matter_of bodies) (cost_at costs) (λ q. sym (total-body q n))
 
 -- each number's point lies in the cube
 site_in_cube : (sites : List Site) (n : ℕ) → All IsInCube sites → IsInCube (site_at sites n)
@@ -48,11 +38,10 @@ pub products_in_cube : (bodies : List BodyOf) (cost : ℕ → ℕ) (t : Tree) �
 products_in_cube bodies cost t rule =
     let at : (n : ℕ) → IsInCube (site_at (sites_of bodies) n) = λ n. site_in_cube (sites_of bodies) n rule.in_cube in
     let mass : ℕ → ℕ = λ n. (body_at bodies n).mass in
-    let times : (n x : ℕ) → x ≤ 2097151 → mass n * x ≤ 2097151 * mass n = λ n x l. omega (arith, mul-le-mul_left (mass n) l) in
     record {
-      x = total_times _ mass 2097151 (λ n. times n (site_at (sites_of bodies) n).x (omega (arith, (at n).x_fits))) t;
-      y = total_times _ mass 2097151 (λ n. times n (site_at (sites_of bodies) n).y (omega (arith, (at n).y_fits))) t;
-      z = total_times _ mass 2097151 (λ n. times n (site_at (sites_of bodies) n).z (omega (arith, (at n).z_fits))) t;
+      x = total_products mass (λ n. (site_at (sites_of bodies) n).x) 2097151 t (λ n i. omega (arith, (at n).x_fits));
+      y = total_products mass (λ n. (site_at (sites_of bodies) n).y) 2097151 t (λ n i. omega (arith, (at n).y_fits));
+      z = total_products mass (λ n. (site_at (sites_of bodies) n).z) 2097151 t (λ n i. omega (arith, (at n).z_fits));
     }
 
 -- a total over the octree of the numbers below a number

@@ -10,7 +10,7 @@ use Rattle.octree.proofs.Laws.{child_bodies, top_body_inside}
 use Rattle.octree.specs.Spot.{IsCellUnder, IsReachable, IsUnderChild, Spot, cell_at, child_under, tree_below, tree_under}
 use Rattle.octree.specs.Stored.{Stored}
 use Rattle.octree.specs.Subtree.{IsBodyAt, IsCellAt, IsChildOf, IsNothingAt}
-use Rattle.mass_moments.proofs.ChildMoments.{child_fits, moment_upto, upto_all, upto_empty, upto_fits, upto_more, upto_none}
+use Rattle.bh_model.proofs.Moments.{child_fits, moment_upto, upto_all, upto_empty, upto_fits, upto_more, upto_none}
 use Rattle.mass_moments.specs.Filling.{AreFilled}
 use Rattle.mass_moments.specs.Kept.{moment_at}
 

@@ -1,3 +1,2 @@
-pub mod ChildMoments
 pub mod Fillings
 pub mod Bounds

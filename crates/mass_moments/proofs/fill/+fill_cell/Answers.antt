@@ -4,8 +4,7 @@ use Rattle.bh_model.specs.Trees.{height, order}
 use Rattle.octree.proofs.Laws.{child_bodies, child_height, child_octree}
 use Rattle.octree.specs.Spot.{IsReachable, Spot, tree_under}
 use Rattle.octree.specs.Stored.{Stored}
-use Rattle.mass_moments.proofs.Bounds.{products_in_cube}
-use Rattle.mass_moments.proofs.ChildMoments.{moment_listed}
+use Rattle.mass_moments.proofs.Bounds.{moment_listed, products_in_cube}
 use Rattle.mass_moments.proofs.Fillings.{body_more, cell_itself, cell_more, child_body, child_reached, filled_cell, filled_start, more_fits}
 use Rattle.mass_moments.proofs.Fillings.{nothing_more, part_fits, whole_cell}
 use Rattle.mass_moments.specs.Filling.{AreProductsInCube}

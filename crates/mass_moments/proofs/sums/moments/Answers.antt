@@ -1,9 +1,9 @@
 use Rattle.std.proofs.Common.{◌≡◌, ◌<◌, ◌∙◌, ℕ, List, ap, arith, drop, length, subst, sym}
 use Rattle.std.proofs.lemmas.List.{length-map, take_at}
 use Rattle.octant_code.specs.Points.{site_at}
-use Rattle.bh_model.proofs.Orders.{numbers_in_order}
 use Rattle.bh_model.specs.Bodies.{IsIn}
 use Rattle.bh_model.specs.Trees.{Tree, order}
+use Rattle.octree.proofs.Laws.{body_known}
 use Rattle.octree.specs.Spot.{tree_below}
 use Rattle.octree.specs.Stored.{IsOctreeOf, Stored, tree_of}
 use Rattle.scene_file.specs.Bodies.{sites_of}
@@ -16,12 +16,7 @@ use Rattle.mass_moments.proofs.sums.moments.Goals as goal
 
 -- each body of the tree is one of the scene's
 bodies_within : (bodies : List BodyOf) (o : Stored) (n : ℕ) → IsOctreeOf (sites_of bodies) o → IsIn (order (tree_of o)) n → n < length bodies
-bodies_within bodies o n rule i =
-    omega (
-      arith,
-      numbers_in_order (site_at (sites_of bodies)) (length (sites_of bodies)) n (subst (λ (t : Tree). IsIn (order t) n) rule.tree i),
-      length-map bodies (λ (b : BodyOf). b.at),
-    )
+bodies_within bodies o n rule i = omega (arith, body_known (sites_of bodies) o n rule i, length-map bodies (λ (b : BodyOf). b.at))
 
 pub fill-requires-clause-bodies_in : goal.fill-requires-clause-bodies_in
 fill-requires-clause-bodies_in g c = λ n i.
