@@ -1,5 +1,5 @@
 -- What a descent takes of a tree, and how it is gathered from the children of a cell.
-use Rattle.std.proofs.Common.{◌≡◌, ◌≤◌, ◌<◌, ◌+◌, ℕ, List, [], ◌∷◌, ◌++◌, length, ap, ◌∙◌, sym, arith, add-one, append-nil, append_assoc, true, false, All}
+use Rattle.std.proofs.Common.{◌≡◌, ◌≤◌, ◌<◌, ◌+◌, ℕ, List, [], ◌∷◌, ◌++◌, length, ap, ◌∙◌, sym, arith, add-one, append-nil, append_assoc, true, false, All, inl}
 use Rattle.std.proofs.lemmas.List.Elements.{All-get_or}
 use Rattle.bh_model.proofs.Lists.{joined}
 use Rattle.bh_model.proofs.Totals.{sum_upto, sum_upto-le, sum_upto-more, total-order}
@@ -10,7 +10,7 @@ use Rattle.bh_model.specs.Trees.{Tree, Body, Empty, cell_of, order}
 use Rattle.bh_model.specs.Zones.{IsCost, cost_at}
 use Rattle.costzones.specs.Ranges.{between, meets, opened_from}
 use Rattle.costzones.proofs.Openings.{child_ends, child_opened, child_start, opened-body, opened-cell, opened-empty, opened-none}
-use Rattle.costzones.proofs.Ranges.{between-below, between-cell, between-in, between-nil, between-none, child_between}
+use Rattle.costzones.proofs.Ranges.{between-cell, between-in, between-nil, between-none, between-out, child_between}
 
 -- each body of a tree costs something
 pub costs_positive : (tree : Tree) (costs : List ℕ) → ((n : ℕ) → IsIn (order tree) n → n < length costs) → All IsCost costs → (n : ℕ) → IsIn (order tree) n
@@ -37,7 +37,7 @@ module _ {cost : ℕ → ℕ} {low high p : ℕ} {tree : Tree} {start : List ℕ
   pub taken_before : {n : ℕ} → tree ≡ Body n → p < low → IsTaken cost low high p tree start first start first
   taken_before {n} e before =
       taken_nothing
-      (ap (λ t. between cost low high p (order t)) e ∙ ap (between cost low high p) (order-body n) ∙ between-below cost low high p n [] before
+      (ap (λ t. between cost low high p (order t)) e ∙ ap (between cost low high p) (order-body n) ∙ between-out cost low high p n [] (inl before)
       ∙ between-nil cost low high (p + cost n))
       (ap (opened_from cost low high p) e ∙ opened-body cost low high p n)
 

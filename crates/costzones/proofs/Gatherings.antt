@@ -2,6 +2,7 @@
 use Rattle.std.proofs.Common.{◌≡◌, ◌≤◌, ◌<◌, ◌+◌, inl, inr, ℕ, List, [], ◌∷◌, length, ltb, true, false, refl, sym, ap, ◌∙◌, arith, sum_by}
 use Rattle.std.proofs.lemmas.Bool.{cases_lt}
 use Rattle.std.proofs.lemmas.Bool.Decides.{nat_tests}
+use Rattle.std.proofs.lemmas.List.{nil_from_length}
 use Rattle.std.proofs.lemmas.List.Sums.{sum_by-cons}
 use Rattle.bh_model.proofs.Folds.{nth}
 pub use Rattle.bh_model.proofs.Folds.{order_steps}
@@ -15,7 +16,7 @@ use Rattle.octree.specs.Spot.{Spot, child_under, tree_under}
 use Rattle.octree.specs.Subtree.{IsCellAt}
 use Rattle.costzones.specs.Ranges.{between, busy, meets, opened_from}
 use Rattle.costzones.proofs.Openings.{child_ends, child_opened, child_start, opened-body, opened-cell, opened-empty, opened-none}
-use Rattle.costzones.proofs.Ranges.{between-in, between-nil}
+use Rattle.costzones.proofs.Ranges.{between-in, between-nil, costs_more}
 
 -- ---- cells with bodies, child by child
 
@@ -66,15 +67,6 @@ pub ruleset gather_steps = (child_height, order_steps, busies_start, busy_none, 
 
 -- ---- a tree whose span lies in the range
 
--- bodies that cost something cost no less than their number
-costs_more : (cost : ℕ → ℕ) (xs : List ℕ) → ((n : ℕ) → IsIn xs n → 1 ≤ cost n) → length xs ≤ sum_by cost xs
-costs_more cost [] one = omega arith
-costs_more cost (n ∷ xs) one = omega (arith, sum_by-cons cost n xs, one n (inl refl), costs_more cost xs (λ m i. one m (inr i)))
-
-no_cost : (cost : ℕ → ℕ) (xs : List ℕ) → length xs ≤ 0 → sum_by cost xs ≡ 0
-no_cost cost [] none = refl
-no_cost cost (n ∷ xs) none = absurd (omega arith)
-
 -- all its bodies begin in the range
 between-all : (cost : ℕ → ℕ) (low high p : ℕ) (xs : List ℕ) → ((n : ℕ) → IsIn xs n → 1 ≤ cost n) → low ≤ p → p + sum_by cost xs ≤ high
     → between cost low high p xs ≡ xs
@@ -108,7 +100,7 @@ opened-all cost low high (Cell a b c d e f g h) p one from to =
           (λ k l. each k l (child_start cost p kid k) (λ n i. one n (child_in_order kid k n l i)) (omega arith) (omega (arith, child_ends cost p kid k l))))
           ∙ sym (busy-cell kid some)
       | inr none ↦
-          let nothing = no_cost cost (order (cell_of kid)) none in
+          let nothing = ap (sum_by cost) (nil_from_length (order (cell_of kid)) (omega arith)) in
           let apart : meets low high p (p + total cost (cell_of kid)) ≡ false = grind (arith, nat_tests) in
           opened-none cost low high p (cell_of kid) apart ∙ sym (busy-bare kid none)
     ]

@@ -7,7 +7,7 @@ use Rattle.std.proofs.lemmas.Bool.{cases_Bool, cases_lt, ltb-true}
 use Rattle.std.proofs.lemmas.Bool.Decides.{nat_tests}
 use Rattle.bh_model.proofs.Folds.{height_falls, nth}
 use Rattle.bh_model.proofs.Lists.{joined}
-use Rattle.bh_model.proofs.Totals.{each_of_eight, sum_upto, sum_upto-le, sum_upto-more, total-cell, total-order}
+use Rattle.bh_model.proofs.Totals.{each_of_eight, sum_upto, sum_upto-le, sum_upto-more, sum_upto-times, total-cell, total-order}
 use Rattle.bh_model.specs.Moments.{total}
 use Rattle.bh_model.specs.Trees.{Tree, Empty, Body, Cell, cell_of, height, order}
 use Rattle.costzones.specs.Ranges.{between, meets, opened_from}
@@ -129,12 +129,6 @@ weighs cost low high p tree test =
     ]
 
 -- ---- the bound
-
--- a sum of numbers none of which is more than so many times another
-sum_upto-times : (f g : ℕ → ℕ) (most n : ℕ) → ((k : ℕ) → k < n → f k ≤ most * g k) → sum_upto f n ≤ most * sum_upto g n
-unfolding sum_upto
-sum_upto-times f g most zero each = omega arith
-sum_upto-times f g most (suc n) each = omega (arith, sum_upto-times f g most n (λ k l. each k (omega arith)), each n (omega arith))
 
 -- at most as many cells are opened as the tree is high, for each part of its weight
 opened-le_weight : (cost : ℕ → ℕ) (low high : ℕ) (tree : Tree) (p : ℕ) → opened_from cost low high p tree ≤ height tree * weight cost low high p tree

@@ -1,8 +1,9 @@
 -- The bodies that begin in a range of cost: among bodies in a row, among the children of a cell, and those of a zone.
-use Rattle.std.proofs.Common.{◌≡◌, ◌≢◌, ◌≤◌, ◌<◌, ◌+◌, ◌-◌, ◌*◌, ◌/◌, ◌&&◌, inl, inr, ℕ, zero, suc, List, [], ◌∷◌, ◌++◌, leb, ltb, max, min, true, false}
-use Rattle.std.proofs.Common.{refl, ap, ◌∙◌, sym, arith, sum_by}
+use Rattle.std.proofs.Common.{◌≡◌, ◌≢◌, ◌≤◌, ◌<◌, ◌+◌, ◌-◌, ◌*◌, ◌/◌, ◌&&◌, ◌⊎◌, inl, inr, ℕ, zero, suc, List, [], ◌∷◌, ◌++◌, leb, ltb, max, min, true, false}
+use Rattle.std.proofs.Common.{refl, ap, ◌∙◌, sym, arith, sum_by, length}
 use Rattle.std.proofs.lemmas.Bool.{cases_Bool, cases_lt, ltb-false}
 use Rattle.std.proofs.lemmas.Bool.Decides.{nat_tests}
+use Rattle.std.proofs.lemmas.List.{nil_from_length}
 use Rattle.std.proofs.lemmas.List.Sums.{sum_by-append, sum_by-cons}
 use Rattle.std.proofs.lemmas.Nat.{div_below, le-div}
 use Rattle.bh_model.proofs.Lists.{joined}
@@ -27,14 +28,12 @@ pub between-in : (cost : ℕ → ℕ) (low high p n : ℕ) (rest : List ℕ) →
 unfolding between
 between-in cost low high p n rest a b = let t : leb low p && ltb p high ≡ true = grind (arith, nat_tests) in rw t
 
--- and ones that don't
-pub between-below : (cost : ℕ → ℕ) (low high p n : ℕ) (rest : List ℕ) → p < low → between cost low high p (n ∷ rest) ≡ between cost low high (p + cost n) rest
+-- and one that doesn't
+pub between-out : (cost : ℕ → ℕ) (low high p n : ℕ) (rest : List ℕ) → (p < low) ⊎ (high ≤ p)
+    → between cost low high p (n ∷ rest) ≡ between cost low high (p + cost n) rest
 unfolding between
-between-below cost low high p n rest a = let t : leb low p && ltb p high ≡ false = grind (arith, nat_tests) in rw t
-
-pub between-above : (cost : ℕ → ℕ) (low high p n : ℕ) (rest : List ℕ) → high ≤ p → between cost low high p (n ∷ rest) ≡ between cost low high (p + cost n) rest
-unfolding between
-between-above cost low high p n rest a = let t : leb low p && ltb p high ≡ false = grind (arith, nat_tests) in rw t
+between-out cost low high p n rest out =
+    let t : leb low p && ltb p high ≡ false = elim out [ inl below ↦ grind (arith, nat_tests) | inr above ↦ grind (arith, nat_tests) ] in rw t
 
 -- two lists in turn
 pub between-append : (cost : ℕ → ℕ) (low high p : ℕ) (xs ys : List ℕ)
@@ -59,10 +58,7 @@ between-none cost low high p (n ∷ xs) one apart =
     let far : min high (p + sum_by cost (n ∷ xs)) ≤ max low p = ltb-false (max low p) (min high (p + sum_by cost (n ∷ xs))) apart in
     let later : meets low high (p + cost n) (p + cost n + sum_by cost xs) ≡ false = grind (arith, nat_tests) in
     let rest = between-none cost low high (p + cost n) xs (λ m i. one m (inr i)) later in
-    elim (cases_lt p low) [
-      | inl below ↦ between-below cost low high p n xs below ∙ rest
-      | inr here ↦ between-above cost low high p n xs (omega arith) ∙ rest
-    ]
+    between-out cost low high p n xs (elim (cases_lt p low) [ inl below ↦ inl below | inr here ↦ inr (omega arith) ]) ∙ rest
 
 -- ---- the children of a cell
 
@@ -133,17 +129,17 @@ zone_between cost workers whole w low high p [] range = zone_from-none cost work
 zone_between cost workers whole w low high p (n ∷ xs) range =
     let rest = zone_between cost workers whole w low high (p + cost n) xs range in
     elim (cases_lt p low) [
-      | inl less ↦ zone_from-other cost workers whole p n xs w (range.below p less) ∙ rest ∙ sym (between-below cost low high p n xs less)
+      | inl less ↦ zone_from-other cost workers whole p n xs w (range.below p less) ∙ rest ∙ sym (between-out cost low high p n xs (inl less))
       | inr from ↦ elim (cases_lt p high) [
         | inl to ↦ zone_from-own cost workers whole p n xs w (range.inside p from to) ∙ ap (λ zs. n ∷ zs) rest ∙ sym (between-in cost low high p n xs from to)
-        | inr more ↦ zone_from-other cost workers whole p n xs w (range.above p more) ∙ rest ∙ sym (between-above cost low high p n xs more)
+        | inr more ↦ zone_from-other cost workers whole p n xs w (range.above p more) ∙ rest ∙ sym (between-out cost low high p n xs (inr more))
       ]
     ]
 
--- bodies that cost something and come to nothing are none
-no_bodies : (cost : ℕ → ℕ) (xs : List ℕ) → ((n : ℕ) → IsIn xs n → 1 ≤ cost n) → sum_by cost xs ≡ 0 → xs ≡ []
-no_bodies cost [] one z = refl
-no_bodies cost (n ∷ xs) one z = absurd (let first : 1 ≤ cost n = one n (inl refl) in omega (arith, sum_by-cons cost n xs))
+-- bodies that cost something cost no less than their number
+pub costs_more : (cost : ℕ → ℕ) (xs : List ℕ) → ((n : ℕ) → IsIn xs n → 1 ≤ cost n) → length xs ≤ sum_by cost xs
+costs_more cost [] one = omega arith
+costs_more cost (n ∷ xs) one = omega (arith, sum_by-cons cost n xs, one n (inl refl), costs_more cost xs (λ m i. one m (inr i)))
 
 -- a zone of a tree has the bodies of the tree that begin in its range
 pub zone_is : (cost : ℕ → ℕ) (workers w : ℕ) (tree : Tree) → ((n : ℕ) → IsIn (order tree) n → 1 ≤ cost n) → 1 ≤ workers
@@ -156,7 +152,7 @@ zone_is cost workers w tree one some =
     elim (cases_lt 0 whole) [
       | inl cheap ↦ zone_between cost workers whole w low high 0 (order tree) (range_of workers whole w some cheap)
       | inr free ↦
-          let none : order tree ≡ [] = no_bodies cost (order tree) one (omega arith) in
+          let none = nil_from_length (order tree) (omega (arith, costs_more cost (order tree) one)) in
           ap (λ xs. zone_from cost workers whole 0 xs w) none ∙ zone_from-none cost workers whole 0 w
           ∙ sym (ap (between cost low high 0) none ∙ between-nil cost low high 0)
     ]

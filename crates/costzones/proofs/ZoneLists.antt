@@ -1,12 +1,8 @@
 -- The zones of the workers, one after another.
-use Rattle.std.proofs.Common.{◌≡◌, ◌+◌, ℕ, List, [], ◌∷◌, ◌++◌, ap, ◌∙◌, sym, add-one, map}
+use Rattle.std.proofs.Common.{◌≡◌, ◌+◌, ℕ, List, [], ◌∷◌, ◌++◌, ap, ◌∙◌, sym, map}
 use Rattle.std.proofs.lemmas.List.{map_push}
+use Rattle.bh_model.proofs.Lists.{numbers_more}
 use Rattle.bh_model.specs.Bodies.{numbers}
-
--- one number more
-numbers_more : (n : ℕ) → numbers (n + 1) ≡ numbers n ++ (n ∷ [])
-unfolding numbers
-numbers_more n = rw add-one
 
 -- no zone yet
 pub zones_none : {X : Type 0} (its : X → List ℕ) (f : ℕ → List ℕ) (xs : List X) → xs ≡ [] → map its xs ≡ map f (numbers 0)
