@@ -9,6 +9,7 @@ pub mod Orders
 pub mod Splits
 pub mod Totals
 pub mod Moments
+pub mod CellCounts
 pub mod AllBodies
 pub mod Standing
 pub mod Terms

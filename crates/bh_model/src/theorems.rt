@@ -7,6 +7,7 @@ mod zones;
 
 pub use pulls::{a_pull_is_below_the_bound, a_term_is_at_most_the_constant_times_the_mass};
 pub use trees::{
-    cells_are_where_two_bodies_lie, one_tree_for_every_order, order_has_each_body_once,
+    an_octree_has_at_most_21_cells_a_body, cells_are_where_two_bodies_lie,
+    one_tree_for_every_order, order_has_each_body_once,
 };
 pub use zones::{a_cells_cost_is_that_of_its_bodies, each_body_is_in_one_zone};

@@ -1,10 +1,11 @@
 //! The theorems about canonical octrees.
 
-ghost use Rattle.std.specs.Prelude.{◌≡◌, ◌↔◌, ◌<◌, ℕ, All, length};
+ghost use Rattle.std.specs.Prelude.{◌≡◌, ◌↔◌, ◌<◌, ◌≤◌, ◌*◌, ℕ, All, length};
 ghost use Rattle.octant_code.specs.Space.{IsInCube};
 ghost use Rattle.octant_code.specs.Points.{site_at};
+ghost use Rattle.octant_code.specs.declared.limits.TheConstants.{LEVELS};
 ghost use Rattle.bh_model.specs.Bodies.{IsIn, NoneTwice, HasMoreUnder};
-ghost use Rattle.bh_model.specs.Trees.{octree, order, HasCellAt};
+ghost use Rattle.bh_model.specs.Trees.{cell_count, octree, order, HasCellAt};
 
 use octant_code::Points;
 
@@ -35,6 +36,13 @@ pub fn order_has_each_body_once(points: &Points, bodies: &[u32])
     requires within { All (λ n. n < length points.now) bodies.now }
     ensures same_bodies { (n : ℕ) → IsIn (order (octree (site_at points.now) bodies.now)) n ↔ IsIn bodies.now n }
     ensures once { NoneTwice (order (octree (site_at points.now) bodies.now)) }
+{
+    let _read = (points.len(), bodies.len());
+}
+
+/// The canonical octree has at most 21 cells for each body of the list: one of each level.
+pub fn an_octree_has_at_most_21_cells_a_body(points: &Points, bodies: &[u32])
+    ensures { cell_count (octree (site_at points.now) bodies.now) ≤ LEVELS * length bodies.now }
 {
     let _read = (points.len(), bodies.len());
 }
