@@ -12,9 +12,9 @@ use Rattle.tree_rule.specs.Notes.{AreLater}
 use Rattle.tree_rule.proofs.Laws.{body_note_stays, cell_note_stays, place_kept}
 use Rattle.tree_passes.specs.declared.view.TheConstants.{ROW_WORDS}
 use Rattle.tree_passes.specs.declared.view.View.{View}
-use Rattle.tree_passes.specs.Counting.{times}
+use Rattle.tree_passes.specs.Counting.{times, Has}
 use Rattle.tree_passes.specs.Opening.{Opening}
-use Rattle.tree_passes.specs.Passes.{IsBody, IsCell, Knows, KnowsPlace}
+use Rattle.tree_passes.specs.Passes.{HasKey, IsBody, IsCell, Knows, KnowsPlace}
 use Rattle.tree_passes.specs.Rule.{Kept, Parted}
 use Rattle.tree_passes.proofs.Counts.{sum_of-set}
 
@@ -48,6 +48,24 @@ knows_on o ws us cells more bodies others g v untouched k = record {
   seen = λ x h. g.bodies_stay x (k.seen x h);
   under = λ i n h. let t = k.under i n h in
       (t.0, place_kept (at_of ws) (at_of us) 0 1 (IsCell o cells) (IsCell o more) t.0 i g.later.cells_stay g.later.keys_stay t.1);
+}
+
+-- what is known is known with fewer cells too, where the words are known that other facts under locks are of
+pub knows_less : {o : Opening} {ws : List ℕ} {cells bodies : ℕ → ℕ} {v : View} {held published todo done locks : List ℕ} {quota changes : ℕ}
+    {under : List (ℕ × ℕ)} → ((c : ℕ) → times c held ≤ times c v.held) → ((i n : ℕ) → Has under (i, n) → HasKey (at_of ws) (IsCell o cells) i)
+    → Knows o ws cells bodies v
+    → Knows o ws cells bodies
+    (record v { held = held; quota = quota; published = published; todo = todo; done = done; changes = changes; locks = locks; under = under })
+knows_less less there k = record {
+  points = k.points;
+  opening = k.opening;
+  long = k.long;
+  memory = λ c j h. k.memory c j (let l = less c in omega arith);
+  inside = λ c h. k.inside c (let l = less c in omega arith);
+  cell_notes = k.cell_notes;
+  body_notes = k.body_notes;
+  seen = k.seen;
+  under = there;
 }
 
 -- the lists of a view change, and the counts with them

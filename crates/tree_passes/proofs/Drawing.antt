@@ -18,7 +18,7 @@ use Rattle.tree_passes.specs.Rule.{Kept, Parted}
 use Rattle.tree_passes.specs.Locks.{Holds, Locked}
 use Rattle.tree_passes.specs.Plays.{drawn, Mine}
 use Rattle.tree_passes.proofs.Counts.{same-eq, same-ne, sum_of-set, sum_of_none, sum_of_one}
-use Rattle.tree_passes.proofs.After.{knows_on}
+use Rattle.tree_passes.proofs.After.{knows_less, knows_on}
 use Rattle.tree_passes.proofs.Storing.{IsAside, grows_aside, kept_aside}
 use Rattle.tree_passes.proofs.FreeSteps.{place_no_pool}
 use Rattle.tree_passes.proofs.LockSteps.{not_pool}
@@ -143,17 +143,7 @@ module _ (o : Opening) (s : State (Unit {0}) View) (f : Locked o s) (id : ℕ) (
   on : Knows o us h.cells h.bodies (record v { held = [] })
   on = knows_on o s.words us h.cells h.cells h.bodies h.bodies (grows_aside o s h POOL_PLACE (c + 1) aside) (record v { held = [] })
       (λ d l p q. absurd (omega arith))
-      (record {
-        points = k.points;
-        opening = k.opening;
-        long = k.long;
-        memory = λ d l p q. absurd (omega arith);
-        inside = λ d p. absurd (omega arith);
-        cell_notes = k.cell_notes;
-        body_notes = k.body_notes;
-        seen = k.seen;
-        under = k.under;
-      })
+      (knows_less (λ d. omega arith) k.under k)
 
   kept : Kept o record { words = us; homes = s.homes; views = set s.views id w }
   kept = kept_aside o s h POOL_PLACE (c + 1) aside id v w at parted (λ j u ne there d l p m e. omega arith) (record {

@@ -1,6 +1,7 @@
 -- What passes rest on, for the proofs of the trees, which import nothing else of these proofs.
 
 -- counting in lists
+pub use Rattle.tree_passes.proofs.Counts.{length-all_of, length-same, length-without, none_in, sum_of-map, times-all_of}
 pub use Rattle.tree_passes.proofs.Counts.{in_times, once_times, same-eq, same-ne, times-append, times-without, times-without_all, times_in, times_once}
 -- facts between the steps of one call
 pub use Rattle.tree_passes.proofs.Turns.{cell_instead, descends_from, descends_learnt, found_learnt, inserted_from, inserted_published, meets, place_below}

@@ -17,7 +17,7 @@ use Rattle.tree_passes.specs.Rule.{Kept}
 use Rattle.tree_passes.specs.Locks.{CellsLock, Holds, IsLock, IsLockOf, Locked, OfChild, OfRoot, RootsLock}
 use Rattle.tree_passes.specs.Plays.{acquired, Mine, released}
 use Rattle.tree_passes.proofs.Counts.{same-eq, same-ne, sum_of-set, sum_of_one}
-use Rattle.tree_passes.proofs.After.{SameLists, knows_on, moves_not, parted_after, reviewed, set_read}
+use Rattle.tree_passes.proofs.After.{SameLists, knows_less, knows_on, moves_not, parted_after, reviewed, set_read}
 use Rattle.tree_passes.proofs.Storing.{IsAside, grows_aside, kept_aside}
 use Rattle.tree_passes.proofs.Quiet.{row_no_lock}
 use Rattle.tree_passes.proofs.FreeSteps.{place_no_lock}
@@ -91,17 +91,7 @@ acquires o slots id me w lock inside none_held s f len at small =
       subst (λ (b : Bool). Locked o (stepped s w (either b 1 x) id me.1 y keeps)) (sym (eq-eqb x 0 free))
           (locked_after o s id v y (set s.words w 1) f at
           (kept_lock o s f.kept id v y w 1 at lock (record { todo = refl; done = refl; held = refl; published = refl })
-          (λ us cells bodies k. record {
-            points = k.points;
-            opening = k.opening;
-            long = k.long;
-            memory = k.memory;
-            inside = k.inside;
-            cell_notes = k.cell_notes;
-            body_notes = k.body_notes;
-            seen = k.seen;
-            under = k.under;
-          }))
+          (λ us cells bodies k. knows_less (λ c. omega arith) k.under k))
           (record {
             long = length-set s.words w 1;
             counted = λ i l. lock_counts s v y w 1 within (let q = none_now w in let e = same-eq w w refl in omega arith)
@@ -166,17 +156,7 @@ releases o slots id me w held inside s f len at small =
       tt,
       locked_after o s id v y (set s.words w 0) f at
           (kept_lock o s f.kept id v y w 0 at lock (record { todo = refl; done = refl; held = refl; published = refl })
-          (λ us cells bodies k. record {
-            points = k.points;
-            opening = k.opening;
-            long = k.long;
-            memory = k.memory;
-            inside = k.inside;
-            cell_notes = k.cell_notes;
-            body_notes = k.body_notes;
-            seen = k.seen;
-            under = λ i n q. absurd q;
-          }))
+          (λ us cells bodies k. knows_less (λ c. omega arith) (λ i n q. absurd q) k))
           (record {
             long = length-set s.words w 0;
             counted = λ i l. lock_counts s v y w 0 within (let q = mine_now w in omega arith)

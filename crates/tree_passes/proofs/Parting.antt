@@ -13,7 +13,7 @@ use Rattle.tree_passes.specs.Opening.{Opening}
 use Rattle.tree_passes.specs.Passes.{given_part, joined, kept_part, Knows, spent}
 use Rattle.tree_passes.specs.Rule.{Kept, Parted}
 use Rattle.tree_passes.proofs.Counts.{sum_of-append, sum_of-set, times-append, times-without_all}
-use Rattle.tree_passes.proofs.After.{each_set}
+use Rattle.tree_passes.proofs.After.{each_set, knows_less}
 use Rattle.tree_passes.proofs.Looking.{met_body}
 
 -- a sum over all views, after a split
@@ -101,17 +101,7 @@ kept_split o s h id v cells bodies quota own among at =
           omega arith;
     })
     (each_split (λ u. Knows o s.words h.cells h.bodies u) s.views id left right h.knows
-    (record {
-      points = k.points;
-      opening = k.opening;
-      long = k.long;
-      memory = λ c l q. k.memory c l (let b = times-without_all cells v.held own c in omega arith);
-      inside = λ c q. k.inside c (let b = times-without_all cells v.held own c in omega arith);
-      cell_notes = k.cell_notes;
-      body_notes = k.body_notes;
-      seen = k.seen;
-      under = k.under;
-    })
+    (knows_less (λ c. let b = times-without_all cells v.held own c in omega arith) k.under k)
     (record {
       points = k.points;
       opening = k.opening;

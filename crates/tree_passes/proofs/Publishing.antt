@@ -17,9 +17,9 @@ use Rattle.tree_passes.specs.Counting.{times, without_all}
 use Rattle.tree_passes.specs.Opening.{Opening}
 use Rattle.tree_passes.specs.Passes.{after_publication, IsBody, IsCell, Knows, KnowsPlace}
 use Rattle.tree_passes.specs.Rule.{Kept}
-use Rattle.tree_passes.specs.Plays.{IsAmong, IsReadyFor}
+use Rattle.tree_passes.specs.Plays.{IsPutOrNamed, IsReadyFor}
 use Rattle.tree_passes.proofs.Counts.{in_times, times_in, times-append, times-without_all}
-use Rattle.tree_passes.proofs.After.{body_on, cell_on, Grows, kept_after, knows_on, Moves, moves_same, parted_after, place_inside, SameLists}
+use Rattle.tree_passes.proofs.After.{body_on, cell_on, Grows, kept_after, knows_less, knows_on, Moves, moves_same, parted_after, place_inside, SameLists}
 use Rattle.tree_passes.proofs.Looking.{named_body, there}
 use Rattle.tree_passes.proofs.Storing.{place_not_held}
 
@@ -58,14 +58,14 @@ module _ (o : Opening) (s : State (Unit {0}) View) (h : Kept o s) (id : ℕ) (v 
   mine c p = let a = in_times c cells p in let b = r.held c in omega arith
 
   -- the new part stands in the words of the table
-  below : StandsFor (site_at o.sites) (at_of us) new key (IsIn cells) (IsAmong bodies old)
+  below : StandsFor (site_at o.sites) (at_of us) new key (IsIn cells) (IsPutOrNamed bodies old)
   below =
       let word : (c l : ℕ) → IsIn cells c → l < ROW_WORDS → at_of us (child_place c l) ≡ at_of v.memory (child_place c l) =
       λ c l p q. held_stays id v at c l (mine c p) q ∙ k.memory c l (mine c p) q in
-      stands_moved (site_at o.sites) (at_of v.memory) (at_of us) new key (IsIn cells) (IsAmong bodies old)
+      stands_moved (site_at o.sites) (at_of v.memory) (at_of us) new key (IsIn cells) (IsPutOrNamed bodies old)
       (λ c p. let e : key_place c ≡ child_place c 8 = omega arith in ap (at_of us) e ∙ word c 8 p (omega arith) ∙ ap (at_of v.memory) (sym e))
       (λ c l p q. word c l p (omega arith))
-      (subst (λ (z : List Site). StandsFor (site_at z) (at_of v.memory) new key (IsIn cells) (IsAmong bodies old)) k.points r.stands)
+      (subst (λ (z : List Site). StandsFor (site_at z) (at_of v.memory) new key (IsIn cells) (IsPutOrNamed bodies old)) k.points r.stands)
 
   same_cells : (c : ℕ) → Either (IsCell o h.cells) (IsIn cells) c ↔ IsCell o more c
   same_cells c = (
@@ -82,7 +82,7 @@ module _ (o : Opening) (s : State (Unit {0}) View) (h : Kept o s) (id : ℕ) (v 
   more_body : (x : ℕ) → IsBody o h.bodies x → IsBody o others x
   more_body = body_on o h.bodies others (λ d. omega arith)
 
-  same_bodies : (x : ℕ) → Either (IsBody o h.bodies) (IsAmong bodies old) x ↔ IsBody o others x
+  same_bodies : (x : ℕ) → Either (IsBody o h.bodies) (IsPutOrNamed bodies old) x ↔ IsBody o others x
   same_bodies x = (
     (λ p. elim p [
       | inl q ↦ more_body x q
@@ -100,9 +100,9 @@ module _ (o : Opening) (s : State (Unit {0}) View) (h : Kept o s) (id : ℕ) (v 
   stand : StandsFor (site_at o.sites) (at_of us) (at_of us 0) 1 (IsCell o more) (IsBody o others)
   stand =
       stands_same (site_at o.sites) (at_of us) (at_of us 0) 1 (Either (IsCell o h.cells) (IsIn cells)) (IsCell o more)
-      (Either (IsBody o h.bodies) (IsAmong bodies old)) (IsBody o others) same_cells same_bodies
-      (graft (site_at o.sites) (at_of s.words) (at_of us) 0 1 (IsCell o h.cells) (IsIn cells) (IsBody o h.bodies) (IsAmong bodies old)
-      (IsBody o h.bodies) (IsAmong bodies old) key i new (record {
+      (Either (IsBody o h.bodies) (IsPutOrNamed bodies old)) (IsBody o others) same_cells same_bodies
+      (graft (site_at o.sites) (at_of s.words) (at_of us) 0 1 (IsCell o h.cells) (IsIn cells) (IsBody o h.bodies) (IsPutOrNamed bodies old)
+      (IsBody o h.bodies) (IsPutOrNamed bodies old) key i new (record {
         before = h.stand;
         below = below;
         there = spot;
@@ -143,17 +143,7 @@ module _ (o : Opening) (s : State (Unit {0}) View) (h : Kept o s) (id : ℕ) (v 
 
   knows : Knows o us more others w
   knows = knows_on o s.words us h.cells more h.bodies others grows w (λ c l p q. held_stays id v at c l (let b = held_less c in omega arith) q)
-      (record {
-        points = k.points;
-        opening = k.opening;
-        long = k.long;
-        memory = λ c l p q. k.memory c l (let b = held_less c in omega arith) q;
-        inside = λ c p. k.inside c (let b = held_less c in omega arith);
-        cell_notes = k.cell_notes;
-        body_notes = k.body_notes;
-        seen = k.seen;
-        under = k.under;
-      })
+      (knows_less (λ c. let b = held_less c in omega arith) k.under k)
 
   -- the rule stays, also where the view changes besides in what this rule does not see
   pub kept_published : (x : View) → SameLists w x → ((us : List ℕ) (cells bodies : ℕ → ℕ) → Knows o us cells bodies w → Knows o us cells bodies x)

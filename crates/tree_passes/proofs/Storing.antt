@@ -17,7 +17,7 @@ use Rattle.tree_passes.specs.Opening.{Opening}
 use Rattle.tree_passes.specs.Passes.{IsBody, IsCell, Knows}
 use Rattle.tree_passes.specs.Rule.{Kept, Parted}
 use Rattle.tree_passes.proofs.Counts.{sum_of-add, sum_of_one, sum_of_two}
-use Rattle.tree_passes.proofs.After.{Grows, kept_after, knows_on, moves_not, parted_after}
+use Rattle.tree_passes.proofs.After.{Grows, kept_after, knows_less, knows_on, moves_not, parted_after}
 
 -- a cell that a pass holds is not in the tree
 pub not_in_tree : (o : Opening) (s : State (Unit {0}) View) (h : Kept o s) (id : ℕ) (v : View) → get_elem? s.views id ≡ some v → (c : ℕ)
@@ -125,17 +125,7 @@ module _ (o : Opening) (s : State (Unit {0}) View) (h : Kept o s) (id : ℕ) (v 
   -- what the pass knows beside the cells that it holds
   on : Knows o us h.cells h.bodies (record v { held = [] })
   on = knows_on o s.words us h.cells h.cells h.bodies h.bodies (grows_aside o s h i n aside) (record v { held = [] }) (λ d l p q. absurd (omega arith))
-      (record {
-        points = k.points;
-        opening = k.opening;
-        long = k.long;
-        memory = λ d l p q. absurd (omega arith);
-        inside = λ d p. absurd (omega arith);
-        cell_notes = k.cell_notes;
-        body_notes = k.body_notes;
-        seen = k.seen;
-        under = k.under;
-      })
+      (knows_less (λ d. omega arith) k.under k)
 
   pub kept_stored : Kept o record { words = us; homes = s.homes; views = set s.views id w }
   kept_stored = kept_aside o s h i n aside id v w at

@@ -7,6 +7,8 @@ use Rattle.octant_code.proofs.Apart.{level_shallow}
 use Rattle.octant_code.proofs.Keys.{same_level}
 use Rattle.bh_model.specs.Bodies.{IsIn}
 use Rattle.bh_model.proofs.Equal.{same_or_not}
+use Rattle.tree_rule.specs.declared.notes.CellNote.{CellNote}
+use Rattle.tree_rule.specs.declared.notes.BodyNote.{BodyNote}
 use Rattle.tree_rule.specs.Words.{at_of, body_word, cell_word, child_place}
 use Rattle.tree_rule.specs.Flat.{StandsFor}
 use Rattle.tree_rule.proofs.Laws.{Nothing, Only, stands_body, stands_same}
@@ -15,30 +17,12 @@ use Rattle.tree_passes.specs.declared.view.View.{View}
 use Rattle.tree_passes.specs.Counting.{times, Has, without_all}
 use Rattle.tree_passes.specs.Passes.{after_publication, body_note, cell_note, KnowsPlace, loaded}
 use Rattle.tree_passes.specs.Looks.{FoundBody, FoundCell, Learns, Looked}
-use Rattle.tree_passes.specs.Plays.{IsAmong, IsReadyFor}
+use Rattle.tree_passes.specs.Plays.{IsPutOrNamed, IsReadyFor}
 use Rattle.tree_passes.specs.Making.{HasWritten, IsReady}
 use Rattle.tree_passes.specs.Turns.{Descends, IsBelow, IsFound, IsInserted, IsStill, IsThere}
 use Rattle.tree_passes.proofs.Counts.{same-eq, same-ne, times-without_all}
 use Rattle.tree_passes.proofs.Looking.{found_body_on, found_cell_on}
 use Rattle.tree_passes.proofs.Made.{times_take}
-
-pub still_refl : (v : View) → IsStill v v
-still_refl v = record {
-  points = refl;
-  opening = refl;
-  long = refl;
-  held = refl;
-  quota = refl;
-  published = refl;
-  todo = refl;
-  done = refl;
-  seen = refl;
-  changes = refl;
-  locks = refl;
-  more_loads = omega arith;
-  cell_notes = λ n h. h;
-  body_notes = λ n h. h;
-}
 
 pub still_on : (u v w : View) → IsStill u v → IsStill v w → IsStill u w
 still_on u v w a b = record {
@@ -58,51 +42,15 @@ still_on u v w a b = record {
   body_notes = λ n h. b.body_notes n (a.body_notes n h);
 }
 
--- where a pass wrote into its cells
-pub still_written : (v w : View) (cells : List ℕ) → HasWritten v w cells → IsStill v w
-still_written v w cells h = subst (λ (z : View). IsStill v z) (sym h.view)
-    (record {
-      points = refl;
-      opening = refl;
-      long = h.long;
-      held = refl;
-      quota = refl;
-      published = refl;
-      todo = refl;
-      done = refl;
-      seen = refl;
-      changes = refl;
-      locks = refl;
-      more_loads = omega arith;
-      cell_notes = λ n h. h;
-      body_notes = λ n h. h;
-    })
-
--- and where it learnt
-pub still_learnt : (v : View) (i key value : ℕ) (w : View) → Learns v i key value w → IsStill v w
-still_learnt v i key value w l = subst (λ (z : View). IsStill v z) (sym l.view)
-    (record {
-      points = refl;
-      opening = refl;
-      long = refl;
-      held = refl;
-      quota = refl;
-      published = refl;
-      todo = refl;
-      done = refl;
-      seen = refl;
-      changes = refl;
-      locks = refl;
-      more_loads = omega arith;
-      cell_notes = l.cells_stay;
-      body_notes = l.bodies_stay;
-    })
-
-pub still_counted : (v : View) (key value : ℕ) → IsStill v (loaded v key value)
-still_counted v key value = record {
+-- where it may write, load and learn
+still_by : {v : View} {memory : List ℕ} {loads : ℕ} {last : ℕ × ℕ} {cell_notes : List CellNote} {body_notes : List BodyNote}
+    → length memory ≡ length v.memory → v.loads ≤ loads → ((n : CellNote) → Has v.cell_notes n → Has cell_notes n)
+    → ((n : BodyNote) → Has v.body_notes n → Has body_notes n)
+    → IsStill v (record v { memory = memory; loads = loads; last = last; cell_notes = cell_notes; body_notes = body_notes })
+still_by long more cells bodies = record {
   points = refl;
   opening = refl;
-  long = refl;
+  long = long;
   held = refl;
   quota = refl;
   published = refl;
@@ -111,10 +59,24 @@ still_counted v key value = record {
   seen = refl;
   changes = refl;
   locks = refl;
-  more_loads = omega arith;
-  cell_notes = λ n h. h;
-  body_notes = λ n h. h;
+  more_loads = more;
+  cell_notes = cells;
+  body_notes = bodies;
 }
+
+pub still_refl : (v : View) → IsStill v v
+still_refl v = still_by refl (omega arith) (λ n h. h) (λ n h. h)
+
+-- where a pass wrote into its cells
+pub still_written : (v w : View) (cells : List ℕ) → HasWritten v w cells → IsStill v w
+still_written v w cells h = subst (λ (z : View). IsStill v z) (sym h.view) (still_by h.long (omega arith) (λ n h. h) (λ n h. h))
+
+-- and where it learnt
+pub still_learnt : (v : View) (i key value : ℕ) (w : View) → Learns v i key value w → IsStill v w
+still_learnt v i key value w l = subst (λ (z : View). IsStill v z) (sym l.view) (still_by refl (omega arith) l.cells_stay l.bodies_stay)
+
+pub still_counted : (v : View) (key value : ℕ) → IsStill v (loaded v key value)
+still_counted v key value = still_by refl (omega arith) (λ n h. h) (λ n h. h)
 
 pub still_looked : (v : View) (i key value : ℕ) (w : View) → Looked v i key value w → IsStill v w
 still_looked v i key value w l =
@@ -225,8 +187,8 @@ ready_alone v sites n level word p l h is = record {
   no_cell = λ d e. absurd (omega arith);
   grows = λ x e. absurd (omega arith);
   stands =
-      subst (λ (z : ℕ). StandsFor (site_at v.points) (at_of v.memory) z (key_of (site_at sites n) level) (IsIn []) (IsAmong (n ∷ []) 0)) (sym is)
-      (stands_same (site_at v.points) (at_of v.memory) (body_word n) (key_of (site_at sites n) level) Nothing (IsIn []) (Only n) (IsAmong (n ∷ []) 0)
+      subst (λ (z : ℕ). StandsFor (site_at v.points) (at_of v.memory) z (key_of (site_at sites n) level) (IsIn []) (IsPutOrNamed (n ∷ []) 0)) (sym is)
+      (stands_same (site_at v.points) (at_of v.memory) (body_word n) (key_of (site_at sites n) level) Nothing (IsIn []) (Only n) (IsPutOrNamed (n ∷ []) 0)
       (λ c. ((λ q. q), (λ q. q)))
       (λ m. ((λ q. inl (inl q)), (λ q. elim q [ inl a ↦ elim a [ inl e ↦ e | inr b ↦ absurd b ] | inr e ↦ absurd (omega arith) ])))
       (stands_body (site_at v.points) (at_of v.memory) (key_of (site_at sites n) level) n (Only n)
@@ -242,9 +204,9 @@ ready_over v sites x n key old new top cells p among h is_old is_new stands = re
   todo = one_todo n v.todo h;
   no_cell = λ d e. absurd (omega arith);
   grows = λ y e. (top, is_new);
-  stands = subst (λ (z : List Site). StandsFor (site_at z) (at_of v.memory) new key (IsIn cells) (IsAmong (n ∷ []) old)) (sym p)
-      (subst (λ (z : ℕ). StandsFor (site_at sites) (at_of v.memory) z key (IsIn cells) (IsAmong (n ∷ []) old)) (sym is_new)
-      (stands_same (site_at sites) (at_of v.memory) (cell_word top) key (IsIn cells) (IsIn cells) (IsOneOf x n) (IsAmong (n ∷ []) old)
+  stands = subst (λ (z : List Site). StandsFor (site_at z) (at_of v.memory) new key (IsIn cells) (IsPutOrNamed (n ∷ []) old)) (sym p)
+      (subst (λ (z : ℕ). StandsFor (site_at sites) (at_of v.memory) z key (IsIn cells) (IsPutOrNamed (n ∷ []) old)) (sym is_new)
+      (stands_same (site_at sites) (at_of v.memory) (cell_word top) key (IsIn cells) (IsIn cells) (IsOneOf x n) (IsPutOrNamed (n ∷ []) old)
       (λ c. ((λ q. q), (λ q. q)))
       (λ m. (
         (λ q. elim q [ inl e ↦ inr (is_old ∙ ap body_word (sym e)) | inr e ↦ inl (inl e) ]),
@@ -261,9 +223,9 @@ ready_part v sites key new top cells bodies p among entrusted is stands = record
   todo = entrusted;
   no_cell = λ d e. absurd (omega arith);
   grows = λ y e. absurd (omega arith);
-  stands = subst (λ (z : List Site). StandsFor (site_at z) (at_of v.memory) new key (IsIn cells) (IsAmong bodies 0)) (sym p)
-      (subst (λ (z : ℕ). StandsFor (site_at sites) (at_of v.memory) z key (IsIn cells) (IsAmong bodies 0)) (sym is)
-      (stands_same (site_at sites) (at_of v.memory) (cell_word top) key (IsIn cells) (IsIn cells) (IsIn bodies) (IsAmong bodies 0)
+  stands = subst (λ (z : List Site). StandsFor (site_at z) (at_of v.memory) new key (IsIn cells) (IsPutOrNamed bodies 0)) (sym p)
+      (subst (λ (z : ℕ). StandsFor (site_at sites) (at_of v.memory) z key (IsIn cells) (IsPutOrNamed bodies 0)) (sym is)
+      (stands_same (site_at sites) (at_of v.memory) (cell_word top) key (IsIn cells) (IsIn cells) (IsIn bodies) (IsPutOrNamed bodies 0)
       (λ c. ((λ q. q), (λ q. q))) (λ m. ((λ q. inl q), (λ q. elim q [ inl a ↦ a | inr e ↦ absurd (omega arith) ]))) stands));
 }
 

@@ -15,7 +15,7 @@ use Rattle.tree_passes.specs.Looks.{Looked}
 use Rattle.tree_passes.specs.Locks.{IsLock, IsLockOf, Locked, OfChild, OfRoot}
 use Rattle.tree_passes.specs.Plays.{changed, IsReadyFor, looked_under, Mine, put}
 use Rattle.tree_passes.proofs.Counts.{sum_of_two, times-append, times-without_all}
-use Rattle.tree_passes.proofs.After.{place_inside, reviewed, set_read}
+use Rattle.tree_passes.proofs.After.{knows_less, place_inside, reviewed, set_read}
 use Rattle.tree_passes.proofs.Looking.{after_load, knows_load, looked_load, same_key, there}
 use Rattle.tree_passes.proofs.Publishing.{kept_published}
 use Rattle.tree_passes.proofs.FreeSteps.{place_no_lock, place_no_pool}
@@ -43,20 +43,11 @@ looks_under o slots id me i key w place lock mine s f len at small =
       tt,
       subst (λ (us : List ℕ). Locked o record { words = us; homes = s.homes; views = set s.views id x }) (sym (set_read s.words i))
           (locked_after o s id v x s.words f at
-          (reviewed o s h id v x at (record { todo = refl; done = refl; held = refl; published = refl }) (record {
-            points = k.points;
-            opening = k.opening;
-            long = k.long;
-            memory = k.memory;
-            inside = k.inside;
-            cell_notes = k.cell_notes;
-            body_notes = k.body_notes;
-            seen = k.seen;
-            under = λ j n q. elim q [
-              | inl e ↦ subst (λ (p : ℕ × ℕ). HasKey (at_of s.words) (IsCell o h.cells) p.0) e (key, there o s h id v at i key place)
-              | inr q ↦ (h.knows id v at).under j n q
-            ];
-          }))
+          (reviewed o s h id v x at (record { todo = refl; done = refl; held = refl; published = refl }) (knows_less (λ c. omega arith)
+          (λ j n q. elim q [
+            | inl e ↦ subst (λ (p : ℕ × ℕ). HasKey (at_of s.words) (IsCell o h.cells) p.0) e (key, there o s h id v at i key place)
+            | inr q ↦ (h.knows id v at).under j n q
+          ]) k))
           (record {
             long = refl;
             counted = λ j l. refl;
@@ -115,17 +106,7 @@ puts o slots id me i key w old new cells bodies place lock mine known r s f len 
       tt,
       locked_after o s id v x us f at
           (kept_published o s h id v at i key old new cells bodies place hit r x (record { todo = refl; done = refl; held = refl; published = refl })
-          (λ us cs bs q. record {
-            points = q.points;
-            opening = q.opening;
-            long = q.long;
-            memory = q.memory;
-            inside = q.inside;
-            cell_notes = q.cell_notes;
-            body_notes = q.body_notes;
-            seen = q.seen;
-            under = λ j n p. let t = changed_has v.under i new j n p in q.under j t.0 t.1;
-          }))
+          (λ us cs bs q. knows_less (λ c. omega arith) (λ j n p. let t = changed_has v.under i new j n p in q.under j t.0 t.1) q))
           (record {
             long = length-set s.words i new;
             counted = λ q l. let e = lock_stays q l in omega arith;

@@ -35,8 +35,8 @@ read st m found m' =
     (m'.1 ≡ m.1) × (m'.0 ≡ m.0) × ((c j : ℕ) → 1 ≤ times c m.0.held → j < ROW_WORDS → st.word ≡ child_place c j → found ≡ at_of m.0.memory st.word)
 
 -- a body is one of the list, or the one that the word names
-abbrev pub IsAmong : List ℕ → ℕ → ℕ → Type 0
-IsAmong bodies old n = IsIn bodies n ⊎ (old ≡ body_word n)
+abbrev pub IsPutOrNamed : List ℕ → ℕ → ℕ → Type 0
+IsPutOrNamed bodies old n = IsIn bodies n ⊎ (old ≡ body_word n)
 
 -- The word `new` may take the place of `old` under this key: `old` names no cell, and `new` stands, with cells that the pass holds, for bodies of its
 -- todo list and for the one that `old` names.
@@ -45,7 +45,7 @@ pub record IsReadyFor (v : View) (key old new : ℕ) (cells bodies : List ℕ) :
   pub todo : (x : ℕ) → times x bodies ≤ times x v.todo
   pub no_cell : (d : ℕ) → old ≡ cell_word d → ⊥
   pub grows : (x : ℕ) → old ≡ body_word x → (d : ℕ) × (new ≡ cell_word d)
-  pub stands : StandsFor (site_at v.points) (at_of v.memory) new key (IsIn cells) (IsAmong bodies old)
+  pub stands : StandsFor (site_at v.points) (at_of v.memory) new key (IsIn cells) (IsPutOrNamed bodies old)
 
 -- a published word is exchanged: the cells and bodies are published, or the pass learns what was there
 abbrev pub exchanged : List ℕ → List ℕ → Step (Unit {0}) → Mine → ℕ → Mine → Type 0

@@ -138,7 +138,8 @@ returns-else-a-b-clause-stands t c =
     c.octant-a.ensures.small c.octant-b.ensures.small
     c.if-a-b.false in
     forked_first c.args.points.now c.write_cell-else-a-b.new.pass.me.0.memory c.args.spare.now c.octant-a.result c.octant-b.result
-    c.args.cube.key c.args.cube.level c.args.x c.args.n (set (set eight c.octant-a.result c.word_of_body.result) c.octant-b.result c.word_of_body-else-a-b.result)
+    c.args.cube.key c.args.cube.level c.args.x c.args.n
+    (set (set eight c.octant-a.result c.word_of_body.result) c.octant-b.result c.word_of_body-else-a-b.result)
     (some_left t d)
     c.write_cell-else-a-b.ensures.words (k.0 ∙ c.word_of_body.ensures) (k.1 ∙ c.word_of_body-else-a-b.ensures) k.2 (octant_x t d) (octant_n t d)
     c.if-a-b.false c.requires.pair
