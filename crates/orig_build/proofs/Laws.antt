@@ -1,17 +1,27 @@
 -- What callers rest on: shares that an owner of each body tells are shares.
-use Rattle.std.proofs.Common.{◌≡◌, ◌≢◌, ◌+◌, ◌<◌, ◌≤◌, ℕ, cond, Bool, filter, List, [], ◌∷◌, map, refl, sym, ◌∙◌, ap, arith, eqb, eq-eqb, ne_eqb}
-use Rattle.std.proofs.lemmas.List.{length-map}
+use Rattle.std.proofs.Common.{◌≡◌, ◌≢◌, ◌+◌, ◌<◌, ◌≤◌, ℕ, suc, cond, Bool, true, false, List, [], ◌∷◌, ◌++◌, map, refl, sym, ◌∙◌, ap, arith, eqb, eq-eqb, ne_eqb}
+use Rattle.std.proofs.lemmas.List.{append-nil, length-map}
+use Rattle.std.proofs.lemmas.List.Elements.{filter-append}
 use mathlib.Core.Logic.{dite}
 use native.Mathlib.Decide.{ℕ_discrete}
+use Rattle.bh_model.proofs.Lists.{numbers_more}
 use Rattle.bh_model.specs.Bodies.{numbers}
 use Rattle.tree_passes.specs.Counting.{same, sum_of, times}
-use Rattle.tree_passes.proofs.Laws.{same-eq, same-ne}
-use Rattle.orig_build.specs.Shares.{AreShares}
-use Rattle.orig_build.proofs.Sharing.{each_of_numbers, length_of_each, sum_of-map}
+use Rattle.tree_passes.proofs.Laws.{same-eq, same-ne, sum_of-map}
+use Rattle.orig_build.specs.Shares.{owned, AreShares}
+use Rattle.orig_build.proofs.Sharing.{each_of_numbers, length_of_each}
 
--- the members of a list that a worker owns
-abbrev pub owned : (ℕ → ℕ) → List ℕ → ℕ → List ℕ
-owned own all w = filter (λ n. eqb (own n) w) all
+-- which is the worker's, or is not
+module _ (own : ℕ → ℕ) (n w : ℕ) where
+  joins : (b : Bool) → eqb (own n) w ≡ b → owned own (numbers n) w ++ cond b (n ∷ []) [] ≡ owned own (numbers (n + 1)) w
+  joins b e = ap (λ (z : Bool). owned own (numbers n) w ++ cond z (n ∷ []) []) (sym e) ∙ sym (filter-append (λ m. eqb (own m) w) (numbers n) (n ∷ []))
+      ∙ ap (λ (l : List ℕ). owned own l w) (sym (numbers_more n))
+
+  pub owned_more : own n ≡ w → owned own (numbers n) w ++ (n ∷ []) ≡ owned own (numbers (n + 1)) w
+  owned_more e = joins true (eq-eqb (own n) w e)
+
+  pub owned_no_more : own n ≢ w → owned own (numbers n) w ≡ owned own (numbers (n + 1)) w
+  owned_no_more d = sym (append-nil (owned own (numbers n) w)) ∙ joins false (ne_eqb (own n) w d)
 
 module _ (own : ℕ → ℕ) (w n : ℕ) where
   times-own : (all : List ℕ) → own n ≡ w → times n (owned own all w) ≡ times n all

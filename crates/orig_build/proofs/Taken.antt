@@ -4,11 +4,12 @@ use Rattle.std.specs.Prelude.{All}
 use Rattle.std.proofs.lemmas.List.{drop_all, take_all}
 use Rattle.bh_model.specs.Bodies.{numbers}
 use Rattle.tree_passes.specs.Counting.{all_of, sum_of, times}
+use Rattle.tree_passes.proofs.Laws.{length-all_of, sum_of-map, times-all_of}
 use Rattle.locked_tree.specs.Seen.{entrusted, PassState, SharedTree}
 use Rattle.orig_build.specs.declared.hands.Hand.{Hand}
 use Rattle.orig_build.specs.Shares.{times_in_all, AreShares}
 use Rattle.orig_build.specs.Hands.{joined_with, AreDealt, EachIsDone, IsDone, IsSpent}
-use Rattle.orig_build.proofs.Sharing.{each_of_numbers, length-all_of, length_of_each, same_of_each, sum_of-each, sum_of-map, times-all_of, HasEach}
+use Rattle.orig_build.proofs.Sharing.{each_of_numbers, length_of_each, same_of_each, sum_of-each, HasEach}
 
 -- Workers have put in what shares hold, each body by one publication.
 pub record AreAllDone (t : SharedTree) (shares : List (List ℕ)) (hands : List Hand) : Type 0 where

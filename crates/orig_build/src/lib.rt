@@ -3,5 +3,7 @@
 
 mod builder;
 mod hands;
+#[cfg(test)]
+mod tests;
 
 pub use builder::build;

@@ -5,10 +5,11 @@ use Rattle.bh_model.specs.Bodies.{IsIn, NoneTwice, numbers}
 use Rattle.bh_model.proofs.Lists.{in_numbers, numbers_once}
 use Rattle.octree.specs.Stored.{IsOctreeOf}
 use Rattle.tree_passes.specs.Counting.{times}
+use Rattle.tree_passes.proofs.Laws.{sum_of-map}
 use Rattle.locked_tree.specs.Seen.{risen, PassState, YardCounts}
 use Rattle.orig_build.specs.declared.hands.Hand.{Hand}
 use Rattle.orig_build.specs.Hands.{EachIsDone}
-use Rattle.orig_build.proofs.Sharing.{each_of_numbers, length_of_each, shares_part, sum_of-map, HasEach}
+use Rattle.orig_build.proofs.Sharing.{each_of_numbers, length_of_each, shares_part, HasEach}
 use Rattle.orig_build.proofs.Taken.{all_done, all_entrusted, put_all, HasPutAll}
 use Rattle.orig_build.proofs.Whole.{empty_canonical, octree_put}
 use Rattle.orig_build.proofs.builder.build.Given.{Over}

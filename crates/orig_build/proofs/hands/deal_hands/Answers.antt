@@ -3,11 +3,10 @@ use Rattle.std.proofs.lemmas.List.{drop_all}
 use Rattle.std.proofs.lemmas.List.Elements.{All-push}
 use Rattle.std.specs.Prelude.{All}
 use Rattle.tree_passes.specs.Counting.{sum_of, times, without_all}
-use Rattle.tree_passes.proofs.Laws.{times-without_all}
+use Rattle.tree_passes.proofs.Laws.{none_in, times-without_all}
 use Rattle.locked_tree.specs.Seen.{PassState}
 use Rattle.orig_build.specs.Hands.{IsReady}
 use Rattle.orig_build.proofs.Dealing.{dealt_more, left_less, todo_alone}
-use Rattle.orig_build.proofs.Sharing.{none_in}
 use Rattle.orig_build.proofs.hands.deal_hands.Goals as goal
 
 pub loop-w-preserved : goal.loop-w-preserved
