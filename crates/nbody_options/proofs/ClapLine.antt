@@ -153,74 +153,50 @@ abbrev AreOptions : List Text → List Text → Type 0
 AreOptions names [] = ⊤
 AreOptions names (x ∷ xs) = IsOption names x × AreOptions names xs
 
+-- what clap computes of a name, with a value that it may be joined to
+abbrev Told : Type 0
+Told = Option (Text × Option Text) × Bool × Option (Text × Option Text) × Bool × Option Rule × Option Rule × Bool
+
+abbrev told_of : List Text → Text → Text → Told
+told_of names name value = (
+  long_of (45 ∷ 45 ∷ name),
+  bytes_eq (45 ∷ 45 ∷ name) (45 ∷ 45 ∷ []),
+  long_of (45 ∷ 45 ∷ (name ++ 61 ∷ value)),
+  bytes_eq (45 ∷ 45 ∷ (name ++ 61 ∷ value)) (45 ∷ 45 ∷ []),
+  arg_by_long (rules_of_names names) name,
+  arg_by_id (rules_of_names names) name,
+  bytes_eq name (codes "command"),
+)
+
+option_is : {names : List Text} {name : Text}
+    → ((value : Text) → told_of names name value ≡ (Some (name, None), false, Some (name, Some value), false, Some (option_filled name), Some (option_filled name), false))
+    → IsOption names name
+option_is told = record {
+  word_long = ap (λ t. t.0) (told []);
+  word_no_end = ap (λ t. t.1) (told []);
+  joined_long = λ v. ap (λ t. t.2) (told v);
+  joined_no_end = λ v. ap (λ t. t.3) (told v);
+  by_long = ap (λ t. t.4) (told []);
+  by_id = ap (λ t. t.5) (told []);
+  no_command = ap (λ t. t.6) (told []);
+}
+
 -- the ten names are those of options
 names_are_options : AreOptions option_names option_names
 unfolding option_names
 names_are_options = (
-  record { word_long = refl; word_no_end = refl; joined_long = λ v. refl; joined_no_end = λ v. refl; by_long = refl; by_id = refl; no_command = refl },
+  option_is (λ v. refl),
   (
-    record { word_long = refl; word_no_end = refl; joined_long = λ v. refl; joined_no_end = λ v. refl; by_long = refl; by_id = refl; no_command = refl },
+    option_is (λ v. refl),
     (
-      record { word_long = refl; word_no_end = refl; joined_long = λ v. refl; joined_no_end = λ v. refl; by_long = refl; by_id = refl; no_command = refl },
+      option_is (λ v. refl),
       (
-        record { word_long = refl; word_no_end = refl; joined_long = λ v. refl; joined_no_end = λ v. refl; by_long = refl; by_id = refl; no_command = refl },
+        option_is (λ v. refl),
         (
-          record { word_long = refl; word_no_end = refl; joined_long = λ v. refl; joined_no_end = λ v. refl; by_long = refl; by_id = refl; no_command = refl },
+          option_is (λ v. refl),
           (
-            record {
-              word_long = refl;
-              word_no_end = refl;
-              joined_long = λ v. refl;
-              joined_no_end = λ v. refl;
-              by_long = refl;
-              by_id = refl;
-              no_command = refl;
-            },
-            (
-              record {
-                word_long = refl;
-                word_no_end = refl;
-                joined_long = λ v. refl;
-                joined_no_end = λ v. refl;
-                by_long = refl;
-                by_id = refl;
-                no_command = refl;
-              },
-              (
-                record {
-                  word_long = refl;
-                  word_no_end = refl;
-                  joined_long = λ v. refl;
-                  joined_no_end = λ v. refl;
-                  by_long = refl;
-                  by_id = refl;
-                  no_command = refl;
-                },
-                (
-                  record {
-                    word_long = refl;
-                    word_no_end = refl;
-                    joined_long = λ v. refl;
-                    joined_no_end = λ v. refl;
-                    by_long = refl;
-                    by_id = refl;
-                    no_command = refl;
-                  },
-                  (
-                    record {
-                      word_long = refl;
-                      word_no_end = refl;
-                      joined_long = λ v. refl;
-                      joined_no_end = λ v. refl;
-                      by_long = refl;
-                      by_id = refl;
-                      no_command = refl;
-                    },
-                    tt,
-                  ),
-                ),
-              ),
-            ),
+            option_is (λ v. refl),
+            (option_is (λ v. refl), (option_is (λ v. refl), (option_is (λ v. refl), (option_is (λ v. refl), tt)))),
           ),
         ),
       ),

@@ -1,8 +1,9 @@
 -- The plain form of a command line: one command, and options with their values, each at most once, in any order.
-use Rattle.std.specs.Prelude.{◌==◌, ◌+◌, ◌&&◌, not, ℕ, Bool, false, List, [], ◌∷◌, ◌++◌, Option, Some, None, codes, take, drop, find, option_map}
+use Rattle.std.specs.Prelude.{◌==◌, ◌+◌, ◌&&◌, not, ℕ, Bool, false, List, [], ◌∷◌, ◌++◌, Option, Some, None, codes, take, drop, find, map, option_map}
 use Rattle.std.specs.Prelude.{option_and_then, position, if◌then◌else◌}
 use Rattle.std.specs.List.{list_any}
 use Rattle.std.specs.Str.{bytes_eq}
+use Rattle.nbody_options.specs.declared.plain.TheConstants.{OPTION_NAMES}
 
 -- a word, by its bytes
 abbrev pub Text : Type 0
@@ -10,13 +11,15 @@ Text = List ℕ
 
 -- the names of the options
 unfoldable pub option_names : List Text
-option_names =
-    codes "builder" ∷ codes "workers" ∷ codes "steps" ∷ codes "theta" ∷ codes "eps2" ∷ codes "g" ∷ codes "probe" ∷ codes "count" ∷ codes "seed"
-    ∷ codes "shape" ∷ []
+option_names = map (λ name. name.now) OPTION_NAMES
 
--- the option whose name, after two hyphens (45), the word is
+-- the name, of some names, that the word is after two hyphens (45)
+abbrev pub name_of : Text → List Text → Option Text
+name_of word names = find (λ name. bytes_eq word (45 ∷ 45 ∷ name)) names
+
+-- the option that a word names
 abbrev pub option_named : Text → Option Text
-option_named word = find (λ name. bytes_eq word (45 ∷ 45 ∷ name)) option_names
+option_named word = name_of word option_names
 
 -- the option that stands before the place `at`, with the value that stands after it
 abbrev pub cut_at : Text → ℕ → Option (Text × Text)

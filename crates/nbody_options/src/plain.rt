@@ -1,13 +1,19 @@
 //! The plain form of a command line.
 
-ghost use Rattle.std.specs.Prelude.{◌≡◌, ◌<◌, ◌==◌, IfOk, IfSome, is_some, length, map, option_map, position, string_bytes};
-ghost use Rattle.nbody_options.specs.Plain.{cut_at, given_by, is_value, meant, named_value, option_named};
+ghost use Rattle.std.specs.Prelude.{◌≡◌, ◌<◌, ◌==◌, ◌∷◌, IfOk, IfSome, is_some, length, map, option_map, position, string_bytes};
+ghost use Rattle.std.specs.Str.{bytes_eq};
+ghost use Rattle.nbody_options.specs.Plain.{cut_at, given_by, is_value, meant, name_of, named_value, option_named};
 
 use octant_code::OutOfMemory;
 use std::alloc::Global;
 
 /// The name under which the command is given.
 pub const COMMAND: &str = "command";
+
+/// The names of the options.
+pub const OPTION_NAMES: [&str; 10] = [
+    "builder", "workers", "steps", "theta", "eps2", "g", "probe", "count", "seed", "shape",
+];
 
 fn is_value(word: &[u8]) -> bool
     ensures { result ≡ is_value word.now }
@@ -18,34 +24,34 @@ fn is_value(word: &[u8]) -> bool
     }
 }
 
+// Whether a word is a name after two hyphens.
+fn has_name(word: &[u8], name: &[u8]) -> bool
+    ensures { result ≡ bytes_eq word.now (45 ∷ 45 ∷ name.now) }
+{
+    match word {
+        [b'-', b'-', rest @ ..] => rest == name,
+        _ => false,
+    }
+}
+
+// The name, of some names, that a word is after two hyphens.
+fn name_of(word: &[u8], names: &[&'static str]) -> Option<&'static [u8]>
+    ensures { option_map (λ s. s.now) result ≡ name_of word.now (map (λ name. name.now) names.now) }
+{
+    for name in names {
+        if has_name(word, name.as_bytes()) {
+            return Some(name.as_bytes());
+        }
+    }
+    None
+}
+
 // The option that a word names.
 #[tactic(auto, unfolding(crate::specs::Plain::option_names))]
 fn option_named(word: &[u8]) -> Option<&'static [u8]>
     ensures { option_map (λ s. s.now) result ≡ option_named word.now }
 {
-    if word == b"--builder".as_slice() {
-        Some(b"builder")
-    } else if word == b"--workers".as_slice() {
-        Some(b"workers")
-    } else if word == b"--steps".as_slice() {
-        Some(b"steps")
-    } else if word == b"--theta".as_slice() {
-        Some(b"theta")
-    } else if word == b"--eps2".as_slice() {
-        Some(b"eps2")
-    } else if word == b"--g".as_slice() {
-        Some(b"g")
-    } else if word == b"--probe".as_slice() {
-        Some(b"probe")
-    } else if word == b"--count".as_slice() {
-        Some(b"count")
-    } else if word == b"--seed".as_slice() {
-        Some(b"seed")
-    } else if word == b"--shape".as_slice() {
-        Some(b"shape")
-    } else {
-        None
-    }
+    name_of(word, OPTION_NAMES.as_slice())
 }
 
 // The option that stands before the place `at`, with the value that stands after it.

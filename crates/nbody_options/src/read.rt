@@ -3,11 +3,11 @@
 ghost use Rattle.std.specs.Prelude.{◌≡◌, IfOk, false, map, string_bytes};
 ghost use Rattle.clap.specs.Simple.{app_of};
 ghost use Rattle.clap.specs.Walk.{rule_of};
-ghost use Rattle.nbody_options.specs.Line.{command_rule, line, option_rule};
+ghost use Rattle.nbody_options.specs.Line.{command_rule, line, option_rule, with_options};
 ghost use Rattle.nbody_options.specs.Options.{Chooses, if_served, is_served, options_of};
 
 use crate::options::{Command, Options, OptionsFault, ProbeChoice};
-use crate::plain::{COMMAND, is_plain};
+use crate::plain::{COMMAND, OPTION_NAMES, is_plain};
 use crate::values::choices_of;
 use bh_model::Builder;
 use clap::error::ErrorKind;
@@ -32,6 +32,21 @@ fn command_word<'a>(alloc: Global) -> Arg<'a>
         .required(true)
 }
 
+// A command line with more options.
+fn with_options<'a>(
+    alloc: Global,
+    line: clap::Command<'a>,
+    names: &[&'a str],
+) -> Result<clap::Command<'a>, AllocError>
+    ensures { IfOk result (λ c. app_of c ≡ with_options (app_of line.entry) (map (λ name. name.now) names.now)) }
+{
+    let mut command = line;
+    for name in names {
+        command = command.arg(option_of(alloc, *name))?;
+    }
+    Ok(command)
+}
+
 // The command and the options, as clap is told them.
 fn command_line<'a>(alloc: Global) -> Result<clap::Command<'a>, AllocError>
     ensures { IfOk result (λ c. app_of c ≡ line) }
@@ -39,17 +54,11 @@ fn command_line<'a>(alloc: Global) -> Result<clap::Command<'a>, AllocError>
     let bare = clap::Command::new(alloc, "nbody")
         .no_binary_name(true)
         .disable_help_flag(true);
-    bare.arg(command_word(alloc))?
-        .arg(option_of(alloc, "builder"))?
-        .arg(option_of(alloc, "workers"))?
-        .arg(option_of(alloc, "steps"))?
-        .arg(option_of(alloc, "theta"))?
-        .arg(option_of(alloc, "eps2"))?
-        .arg(option_of(alloc, "g"))?
-        .arg(option_of(alloc, "probe"))?
-        .arg(option_of(alloc, "count"))?
-        .arg(option_of(alloc, "seed"))?
-        .arg(option_of(alloc, "shape"))
+    with_options(
+        alloc,
+        bare.arg(command_word(alloc))?,
+        OPTION_NAMES.as_slice(),
+    )
 }
 
 // Whether the program serves the options.
