@@ -1,13 +1,15 @@
 -- Counting the cells of a word, child by child.
 use Rattle.std.proofs.Common.{ℕ, ◌<◌, ◌≤◌, ◌≡◌, zero, suc, refl, sym, ◌∙◌, add-one, ap, arith, List, [], length, length-append}
-use Rattle.octant_code.proofs.Keys.{pow8-mono}
 use Rattle.bh_model.proofs.Lists.{joined}
 use Rattle.bh_model.proofs.Folds.{count_none, count_one, counts, counts_all, counts_next, counts_start, lengths_upto}
+use Rattle.bh_model.specs.Bodies.{NoneTwice}
 use Rattle.bh_model.specs.Trees.{Empty, Tree, cell_count}
-use Rattle.tree_rule.specs.Sound.{HereAs, IsReachedAs}
-use Rattle.tree_rule.specs.Words.{at_of, cell_word, cells_from, child_place, tree_from}
-use Rattle.tree_rule.proofs.Laws.{ACell, NoBody, OneBody, WordIs, cells-body, cells-cell, cells-empty, cells_once, cells_read, few_below, forget, tree-body}
+use Rattle.tree_rule.specs.Sound.{HereAs}
+use Rattle.tree_rule.specs.Words.{at_of, cells_from, child_place, tree_from}
+use Rattle.tree_rule.proofs.Laws.{ACell, NoBody, OneBody, WordIs, cells-body, cells-cell, cells-empty, cells_once, few_below, tree-body}
 use Rattle.tree_rule.proofs.Laws.{tree-cell, tree-empty, word_is}
+use Rattle.octree.proofs.Insertions.{base_positive}
+use Rattle.octree.proofs.Subtrees.{cells_of_octree}
 use Rattle.octree.specs.Stored.{IsStored, Stored, cells_of, tree_of}
 
 -- read to no depth every word is empty
@@ -21,16 +23,15 @@ unfolding cells_from
 cells_at_end at zero w e = refl
 cells_at_end at (suc below) w e = absurd (omega arith)
 
+-- no cell of an octree is read twice
+pub cells_are_once : (o : Stored) → IsStored o → NoneTwice (cells_of o)
+cells_are_once o h =
+    let at : ℕ → ℕ = at_of o.words in
+    cells_once at (at 0) o.base (base_positive o h) h.sound 22 o.base (at 0) (HereAs o.base (at 0) refl refl) (word_is (at 0))
+
 -- the cells of an octree are no more than are used
 pub cells_few : (o : Stored) → IsStored o → length (cells_of o) ≤ o.used
-cells_few o h =
-    let at : ℕ → ℕ = at_of o.words in
-    let pos : 1 ≤ o.base = omega (arith, h.base_low, pow8-mono 0 o.level (omega arith)) in
-    let top : IsReachedAs at (at 0) o.base o.base (at 0) = HereAs o.base (at 0) refl refl in
-    few_below o.used (cells_from at 22 (at 0)) (cells_once at (at 0) o.base pos h.sound 22 o.base (at 0) top (word_is (at 0)))
-    (λ c i.
-    let f = cells_read at (at 0) o.base 22 o.base (at 0) c top (word_is (at 0)) i in
-    h.cells_used c (forget at (at 0) o.base f.key (cell_word c) f.read))
+cells_few o h = few_below o.used (cells_of o) (cells_are_once o h) (λ c i. h.cells_used c ((cells_of_octree o h c).0 i))
 
 -- lists as long as the children have cells, joined
 joined_counts : (g : ℕ → List ℕ) (f : ℕ → Tree) (n : ℕ) → ((k : ℕ) → k < n → length (g k) ≡ cell_count (f k)) → length (joined g n) ≡ counts f n

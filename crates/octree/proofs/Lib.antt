@@ -7,6 +7,7 @@ mod Descents
 mod Insertions
 mod Texts
 mod Counts
+mod FreeCells
 mod Rooms
 mod WholeWords
 mod EachOnce

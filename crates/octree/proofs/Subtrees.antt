@@ -11,10 +11,10 @@ use Rattle.bh_model.proofs.Trees.{cell_of-same, order-body, order-cell, order-em
 use Rattle.bh_model.specs.Bodies.{IsIn}
 use Rattle.bh_model.specs.Trees.{Tree, cell_of, height, order}
 use Rattle.tree_rule.proofs.Laws.{ACell, Deeper, IsKeyBelow, NoBody, OneBody, Same, WordIs, child_in_child, comparable, forget, tree-body, tree-cell}
-use Rattle.tree_rule.proofs.Laws.{tree-empty, word_is}
+use Rattle.tree_rule.proofs.Laws.{cells-cell, cells_read, tree-empty, word_is}
 use Rattle.tree_rule.specs.Sound.{BelowAs, HereAs, IsReachedAs}
-use Rattle.tree_rule.specs.Words.{Below, HasBody, HasCell, Here, IsReached, at_of, body_word, cell_word, child_place, tree_from}
-use Rattle.octree.specs.Stored.{IsStored, Stored, root_word, tree_of, tree_of_word}
+use Rattle.tree_rule.specs.Words.{Below, HasBody, HasCell, Here, IsReached, at_of, body_word, cell_word, cells_from, child_place, tree_from}
+use Rattle.octree.specs.Stored.{IsStored, Stored, cells_of, root_word, tree_of, tree_of_word}
 use Rattle.octree.specs.Spot.{IsCellUnder, IsSpot, IsUnderChild, Spot, cell_at, cell_number, child_under, tree_under}
 use Rattle.octree.specs.Subtree.{HasParts, IsBodyAt, IsCellAt, IsChildOf, IsNothingAt}
 use Rattle.octree.proofs.ReadWords.{word_small}
@@ -235,6 +235,37 @@ bodies_of_spot o w r =
 pub bodies_of_tree : (o : Stored) → IsStored o → (n : ℕ) → IsIn (order (tree_of o)) n ↔ HasBody o.words n
 bodies_of_tree o stored = bodies_of_spot o (root_word o) (root_spot o stored)
 
+-- ---- the cells of a word
+
+-- each cell that is read below a word is among those that are read to its level
+cells_all : (o : Stored) (left w : ℕ) → WordIs w → (r : IsSpot (spot_at o w)) → 21 ≤ r.level + left → (d : ℕ) → IsReached (at_of o.words) w (cell_word d)
+    → IsIn (cells_from (at_of o.words) (suc left) w) d
+unfolding child_spot
+cells_all o left w (NoBody e) r deep d h = absurd (omega (arith, word_under (at_of o.words) w (cell_word d) (λ c f. omega arith) h))
+cells_all o left w (OneBody n e) r deep d h = absurd (omega (arith, word_under (at_of o.words) w (cell_word d) (λ c f. omega arith) h))
+cells_all o zero w (ACell c e) r deep d h = absurd (omega (arith, cell_low o w c e r))
+cells_all o (suc left) w (ACell c e) r deep d h =
+    let at : ℕ → ℕ = at_of o.words in
+    let kid : ℕ → ℕ = λ k. at (child_place c k) in
+    subst (λ (y : List ℕ). IsIn y d) (sym (cells-cell at (suc left) w c e))
+    (elim (under_word at c (cell_word d) (subst (λ (y : ℕ). IsReached at y (cell_word d)) e h)) [
+      | inl f ↦ inl (omega arith)
+      | inr f ↦ inr (joined_in (λ k. cells_from at (suc left) (kid k)) 8 f.octant d f.small
+          (cells_all o left (kid f.octant) (word_is (kid f.octant)) (child_spot o w c e r f.octant f.small) (omega arith) d f.read))
+    ])
+
+-- the cells of an octree are those that can be reached
+pub cells_of_octree : (o : Stored) → IsStored o → (d : ℕ) → IsIn (cells_of o) d ↔ HasCell o.words d
+unfolding root_spot
+cells_of_octree o h d =
+    let at : ℕ → ℕ = at_of o.words in
+    let top : ℕ = root_word o in (
+      λ i.
+          let f = cells_read at top o.base 22 o.base top d (HereAs o.base top refl refl) (word_is top) i in
+          forget at top o.base f.key (cell_word d) f.read,
+      λ r. cells_all o 21 top (word_is top) (root_spot o h) (omega arith) d r,
+    )
+
 -- ---- what stands at the top
 
 -- an empty spot
@@ -331,6 +362,7 @@ pub record IsWhole (o : Stored) (s : Spot) : Type 0 where
   pub tree : tree_under s ≡ tree_of o
   pub height : height (tree_under s) ≤ 21
   pub cells : (d : ℕ) → HasCell o.words d → IsCellUnder s d
+  pub reached : (d : ℕ) → IsCellUnder s d → HasCell o.words d
   pub bodies : (n : ℕ) → IsIn (order (tree_of o)) n ↔ HasBody o.words n
   pub spot : IsSpot s
 
@@ -344,6 +376,7 @@ whole_is o w stored e =
       tree = ap (tree_of_word o) e;
       height = omega (arith, low, ap height (ap (tree_of_word o) e));
       cells = λ d h. subst (λ (x : ℕ). IsReached (at_of o.words) x (cell_word d)) (sym e) h;
+      reached = λ d h. subst (λ (x : ℕ). IsReached (at_of o.words) x (cell_word d)) e h;
       bodies = bodies_of_tree o stored;
       spot = subst (λ (y : ℕ). IsSpot (spot_at o y)) (sym e) (root_spot o stored);
     }

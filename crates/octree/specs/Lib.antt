@@ -4,3 +4,4 @@ pub mod Chain
 pub mod Spot
 pub mod Subtree
 pub mod Ranks
+pub mod Free

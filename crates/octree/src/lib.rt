@@ -5,11 +5,14 @@
 mod chain;
 mod descend;
 mod extent;
+mod free;
 mod node;
 mod octree;
 mod order;
 mod ranks;
 mod subtree;
+#[cfg(test)]
+mod tests;
 mod text;
 
 pub use extent::Extent;

@@ -3,6 +3,7 @@
 use crate::chain::{Cube, cells_of_words, part_two, words_of_cells};
 use crate::descend::find_place;
 use crate::extent::{Extent, extent_of};
+use crate::free::{mark_cells, unmarked};
 use crate::node::{CellNo, Node, node_of};
 use crate::order::push_order;
 use crate::ranks::{body_of, ranks_of};
@@ -57,6 +58,7 @@ impl Octree {
     ghost use Rattle.bh_outside.specs.Text.{Puts};
     ghost use Rattle.tree_rule.specs.Words.{at_of, child_place, HasBody};
     ghost use Rattle.tree_rule.specs.Standing.{WordsNameExactly};
+    ghost use Rattle.octree.specs.Free.{AreFreeCells};
     ghost use Rattle.octree.specs.Node.{IsNodeOf};
     ghost use Rattle.octree.specs.Stored.{AreOctreeWords, IsBlankFrom, IsCanonical, IsInserted, IsOctreeOf, IsRoomier, IsStored, all_used, all_words, cells_of, full_tree, root_word, spare_of, tree_of, tree_with_used, word_count};
     ghost use Rattle.octree.specs.Spot.{IsCellUnder, IsReachable, tree_under};
@@ -195,6 +197,7 @@ impl Octree {
         ensures tree { tree_under result ≡ tree_of self.now }
         ensures height { height (tree_under result) ≤ LEVELS }
         ensures cells { (c : ℕ) → IsReachable self.now c → IsCellUnder result c }
+        ensures reached { (c : ℕ) → IsCellUnder result c → IsReachable self.now c }
         ensures bodies { (n : ℕ) → IsIn (order (tree_of self.now)) n ↔ HasBody self.now.words n }
     {
         Subtree {
@@ -309,6 +312,16 @@ impl Octree {
         ensures tree { result ≡ cell_count (tree_of self.now) }
     {
         self.extent().cells
+    }
+
+    /// The numbers of the cells that it holds and that can't be reached, the lowest first.
+    pub fn free_cells(&self, alloc: Global) -> Result<Vec<u32>, OutOfMemory>
+        ensures { IfOk result (λ v. AreFreeCells self.now v.items) }
+    {
+        let held = self.held();
+        let mut marks = vec![in alloc; false; held as usize]?;
+        mark_cells(self.whole(), &mut marks);
+        unmarked(alloc, &marks, held)
     }
 
     /// The greatest level of a word that names a body, counted from the root's word, which is of level

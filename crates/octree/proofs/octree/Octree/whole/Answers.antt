@@ -25,5 +25,6 @@ returns c =
       tree = k.tree;
       height = k.height;
       cells = k.cells;
+      reached = k.reached;
       bodies = k.bodies;
     }
