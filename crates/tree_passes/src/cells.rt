@@ -15,8 +15,8 @@ use crate::view::{KEY_PART, ROW_WORDS};
 use octant_code::{LEVELS, Point, Points, octant};
 use tree_rule::{place_of_child, word_of_body, word_of_cell};
 
-/// Stores into a word of a cell that the pass holds: those of its children are 0 to 7, and its key is
-/// 8.
+/// Sees to it that a word of a cell that the pass holds has a value: those of its children are 0 to 7,
+/// and its key is 8. A word that has it already is not stored, since a load costs less than a store.
 #[inline]
 pub fn write_word(table: &Words, pass: &mut Pass, cell: u32, part: u32, value: u64)
     requires place { pass.old.table_id ≡ table.now.table_id }
@@ -26,7 +26,9 @@ pub fn write_word(table: &Words, pass: &mut Pass, cell: u32, part: u32, value: u
     ensures pass { (pass.new.table_id ≡ pass.old.table_id) × (pass.new.me.1 ≡ pass.old.me.1) }
     ensures wrote { pass.new.me.0 ≡ record pass.old.me.0 { memory = slice_set pass.old.me.0.memory (child_place cell part) value } }
 {
-    table.store::<Write>(pass, place_of_child(cell, part), value);
+    if read_word(table, pass, cell, part) != value {
+        table.store::<Write>(pass, place_of_child(cell, part), value);
+    }
 }
 
 /// Loads a word of a cell that the pass holds.
