@@ -4,3 +4,5 @@ mod Starts
 mod Puts
 mod Resting
 mod Counted
+mod Whole
+pub mod Laws

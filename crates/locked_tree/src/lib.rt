@@ -4,6 +4,8 @@
 mod copy;
 mod find;
 mod insert;
+#[cfg(test)]
+mod tests;
 mod tree;
 mod yard;
 

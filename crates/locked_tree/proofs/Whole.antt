@@ -1,0 +1,59 @@
+-- A tree that was opened empty, and closed with all bodies put in.
+use Rattle.std.proofs.Common.{ℕ, ◌-◌, ◌<◌, ◌≡◌, ◌↔◌, ◌∙◌, ap, subst, inl, inr, arith, List, length}
+use Rattle.std.proofs.lemmas.Bool.{cases_lt}
+use Rattle.octant_code.specs.Space.{Site}
+use Rattle.octant_code.specs.Points.{site_at}
+use Rattle.octant_code.proofs.Keys.{pow8-mono}
+use Rattle.bh_model.specs.Bodies.{IsIn, NoneTwice, numbers}
+use Rattle.bh_model.specs.Trees.{octree_from, order}
+use Rattle.bh_model.proofs.Lists.{numbers_once}
+use Rattle.tree_rule.proofs.Laws.{forget}
+use Rattle.tree_rule.specs.Words.{at_of, body_word, cell_word, Below, HasBody, Here, IsReached}
+use Rattle.octree.specs.Stored.{IsCanonical, IsOctreeOf, IsStored, Stored, tree_of}
+use Rattle.tree_passes.specs.Counting.{times}
+use Rattle.tree_passes.specs.Opening.{Opening}
+use Rattle.tree_passes.proofs.Laws.{in_times, times_in}
+use Rattle.locked_tree.specs.Ends.{IsTreeAtEnd}
+
+-- nothing is read below an empty first word
+reached_blank : (at : ℕ → ℕ) (top w : ℕ) → top ≡ 0 → IsReached at top w → w ≡ 0
+reached_blank at top _ e (Here w f) = f ∙ e
+reached_blank at top _ e (Below c k w r l f) = absurd (omega (arith, reached_blank at top (cell_word c) e r))
+
+-- an octree with no body is canonical
+pub empty_canonical : (sites : List Site) (o : Stored) → at_of o.words 0 ≡ 0 → IsCanonical sites o
+empty_canonical sites o e =
+    let none : (n : ℕ) → HasBody o.words n → ⊥ = λ n r. omega (arith, reached_blank (at_of o.words) (at_of o.words 0) (body_word n) e r) in
+    record {
+      under = λ key n r. absurd (none n (forget (at_of o.words) (at_of o.words 0) o.base key (body_word n) r));
+      bodies_in = λ n r. absurd (none n r);
+    }
+
+-- the whole cube is of level 0
+whole_level : (o : Stored) → IsStored o → o.base ≡ 1 → o.level ≡ 0
+whole_level o h one = elim (cases_lt o.level 1) [
+  | inl l ↦ omega arith
+  | inr l ↦ absurd (omega (arith, h.base_low, pow8-mono 1 o.level l))
+]
+
+-- where the numbers of all points were put in, the octree is that of all points
+pub octree_put : (sites : List Site) (o : Opening) (done seen : List ℕ) (t : Stored) → o.sites ≡ sites → IsTreeAtEnd o done seen t
+    → at_of o.words 0 ≡ 0 → ((x : ℕ) → times x done ≡ times x (numbers (length sites))) → IsStored t
+    → ((n : ℕ) → IsIn (order (tree_of t)) n ↔ HasBody t.words n)
+    → ((bodies : List ℕ) → NoneTwice bodies → ((m : ℕ) → IsIn (order (tree_of t)) m ↔ IsIn bodies m)
+    → tree_of t ≡ octree_from (site_at sites) (21 - t.level) t.level bodies)
+    → IsOctreeOf sites t
+octree_put sites o done seen t is ended empty put stored named law =
+    let all = numbers (length sites) in
+    let members : (m : ℕ) → IsIn (order (tree_of t)) m ↔ IsIn all m = λ m. (
+      (λ b. elim ((ended.bodies m).0 ((named m).0 b)) [
+        | inl old ↦ absurd (omega (arith, reached_blank (at_of o.words) (at_of o.words 0) (body_word m) empty old))
+        | inr there ↦ let some = in_times m done there in let p = put m in times_in m all (omega arith)
+      ]),
+      (λ b. let some = in_times m all b in let p = put m in (named m).1 ((ended.bodies m).1 (inr (times_in m done (omega arith))))),
+    ) in
+    record {
+      base = ended.base;
+      canonical = subst (λ (s : List Site). IsCanonical s t) is ended.canonical;
+      tree = law all (numbers_once (length sites)) members ∙ ap (λ l. octree_from (site_at sites) (21 - l) l all) (whole_level t stored ended.base);
+    }
