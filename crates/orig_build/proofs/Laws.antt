@@ -6,10 +6,14 @@ use mathlib.Core.Logic.{dite}
 use native.Mathlib.Decide.{ℕ_discrete}
 use Rattle.bh_model.proofs.Lists.{numbers_more}
 use Rattle.bh_model.specs.Bodies.{numbers}
+use Rattle.bh_model.proofs.Standing.{length_numbers}
 use Rattle.tree_passes.specs.Counting.{same, sum_of, times}
 use Rattle.tree_passes.proofs.Laws.{same-eq, same-ne, sum_of-map}
 use Rattle.orig_build.specs.Shares.{owned, AreShares}
-use Rattle.orig_build.proofs.Sharing.{each_of_numbers, length_of_each}
+use Rattle.orig_build.proofs.Sharing.{each_of_numbers}
+
+-- how a tree begins
+pub use Rattle.locked_tree.proofs.Laws.{empty_canonical}
 
 -- which is the worker's, or is not
 module _ (own : ℕ → ℕ) (n w : ℕ) where
@@ -78,7 +82,7 @@ owned_are_shares workers count own some few less =
     let every = each_of_numbers count in
     let those = each_of_numbers workers in
     let size = length-map (numbers workers) (owned own all) in
-    let many = length_of_each workers (numbers workers) those in
+    let many = length_numbers workers in
     record {
       some = omega arith;
       few = omega arith;

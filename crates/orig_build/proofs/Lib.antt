@@ -1,5 +1,4 @@
 mod Sharing
 mod Dealing
 mod Taken
-mod Whole
 pub mod Laws

@@ -4,9 +4,8 @@ use Rattle.std.specs.Prelude.{slice_index_or}
 use Rattle.std.proofs.lemmas.Bool.{cases_lt}
 use Rattle.bh_model.specs.Bodies.{numbers}
 use Rattle.bh_model.proofs.Lists.{in_numbers, numbers_once}
-use Rattle.bh_model.proofs.Standing.{length_numbers}
 use Rattle.tree_passes.specs.Counting.{sum_of, times}
-use Rattle.tree_passes.proofs.Laws.{in_times, length-same, once_times, times_in}
+use Rattle.tree_passes.proofs.Laws.{in_times, once_times, times_in}
 use Rattle.orig_build.specs.Shares.{times_in_all, AreShares}
 
 -- what each worker leaves is what the other number of it was before
@@ -35,14 +34,6 @@ each_of_numbers count = record {
     | inr none ↦ omega arith
   ];
 }
-
--- two such lists hold the same
-pub same_of_each : (count : ℕ) (a b : List ℕ) → HasEach count a → HasEach count b → (x : ℕ) → times x a ≡ times x b
-same_of_each count a b h k x = elim (cases_lt x count) [ inl s ↦ h.once x s ∙ sym (k.once x s) | inr s ↦ h.no_other x s ∙ sym (k.no_other x s) ]
-
--- so each has as many members
-pub length_of_each : (count : ℕ) (l : List ℕ) → HasEach count l → length l ≡ count
-length_of_each count l h = length-same l (numbers count) (same_of_each count l (numbers count) h (each_of_numbers count)) ∙ length_numbers count
 
 -- the shares hold what the numbers below the count are
 pub shares_part : (count x : ℕ) (shares : List (List ℕ)) → AreShares count shares → times x (numbers count) ≡ times_in_all x shares

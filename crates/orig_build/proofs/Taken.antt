@@ -3,13 +3,14 @@ use Rattle.std.proofs.Common.{◌≡◌, ◌+◌, ℕ, List, [], ◌++◌, lengt
 use Rattle.std.specs.Prelude.{All}
 use Rattle.std.proofs.lemmas.List.{drop_all, take_all}
 use Rattle.bh_model.specs.Bodies.{numbers}
+use Rattle.bh_model.proofs.Standing.{length_numbers}
 use Rattle.tree_passes.specs.Counting.{all_of, sum_of, times}
-use Rattle.tree_passes.proofs.Laws.{length-all_of, sum_of-map, times-all_of}
+use Rattle.tree_passes.proofs.Laws.{length-all_of, length-same, sum_of-map, times-all_of}
 use Rattle.locked_tree.specs.Seen.{entrusted, PassState, SharedTree}
 use Rattle.orig_build.specs.declared.hands.Hand.{Hand}
 use Rattle.orig_build.specs.Shares.{times_in_all, AreShares}
 use Rattle.orig_build.specs.Hands.{joined_with, AreDealt, EachIsDone, IsDone, IsSpent}
-use Rattle.orig_build.proofs.Sharing.{each_of_numbers, length_of_each, same_of_each, sum_of-each, HasEach}
+use Rattle.orig_build.proofs.Sharing.{shares_part, sum_of-each}
 
 -- Workers have put in what shares hold, each body by one publication.
 pub record AreAllDone (t : SharedTree) (shares : List (List ℕ)) (hands : List Hand) : Type 0 where
@@ -36,7 +37,7 @@ all_done t shares before after n size count dealt each =
 -- The pass has put in each number below a count, once and by one publication, and no other.
 pub record HasPutAll (count : ℕ) (p : PassState) : Type 0 where
   pub none : p.todo ≡ []
-  pub each : HasEach count p.done
+  pub each : (x : ℕ) → times x p.done ≡ times x (numbers count)
   pub changes : p.changes ≡ count
 
 pub put_all : (count : ℕ) (t : SharedTree) (shares : List (List ℕ)) (hands : List Hand) (first dealt last : PassState) → AreShares count shares
@@ -48,17 +49,16 @@ put_all count t shares hands first dealt last are all nothing none d e =
     let counted : (x : ℕ) → times x last.done ≡ times_in_all x shares =
     λ x. ap (times x) done ∙ times-all_of x (λ h. h.pass.done) hands ∙ all.done x in
     let whole = all_of (λ (s : List ℕ). s) shares in
-    let size : length whole ≡ count = length_of_each count whole (record {
-      once = λ x s. times-all_of x (λ (l : List ℕ). l) shares ∙ are.once x s;
-      no_other = λ x s. times-all_of x (λ (l : List ℕ). l) shares ∙ are.no_other x s;
-    }) in
+    let part : (x : ℕ) → times_in_all x shares ≡ times x (numbers count) = λ x. sym (shares_part count x shares are) in
+    let size : length whole ≡ count =
+    length-same whole (numbers count) (λ x. times-all_of x (λ (l : List ℕ). l) shares ∙ part x) ∙ length_numbers count in
     let total = length-all_of (λ (s : List ℕ). s) shares in
     let changes : last.changes ≡ dealt.changes + sum_of (λ h. h.pass.changes) hands = ap (λ (p : PassState). p.changes) e in
     let began : dealt.changes ≡ first.changes = ap (λ (p : PassState). p.changes) d in
     let published = all.changes in
     record {
       none = ap (λ (p : PassState). p.todo) e ∙ ap (λ (p : PassState). p.todo) d;
-      each = record { once = λ x s. counted x ∙ are.once x s; no_other = λ x s. counted x ∙ are.no_other x s };
+      each = λ x. counted x ∙ part x;
       changes = omega arith;
     }
 
@@ -66,4 +66,4 @@ put_all count t shares hands first dealt last are all nothing none d e =
 pub all_entrusted : (count : ℕ) (todo : List ℕ) (p : PassState) → todo ≡ numbers count → HasPutAll count p → (x : ℕ)
     → times x todo ≡ times x (entrusted p)
 all_entrusted count todo p is h x =
-    ap (times x) is ∙ same_of_each count (numbers count) p.done (each_of_numbers count) h.each x ∙ ap (λ (z : List ℕ). times x (z ++ p.done)) (sym h.none)
+    ap (times x) is ∙ sym (h.each x) ∙ ap (λ (z : List ℕ). times x (z ++ p.done)) (sym h.none)

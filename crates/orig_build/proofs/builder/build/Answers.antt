@@ -3,15 +3,16 @@ use Rattle.std.specs.Arc.{arc_value}
 use Rattle.octant_code.specs.Space.{Site}
 use Rattle.bh_model.specs.Bodies.{IsIn, NoneTwice, numbers}
 use Rattle.bh_model.proofs.Lists.{in_numbers, numbers_once}
+use Rattle.bh_model.proofs.Standing.{length_numbers}
 use Rattle.octree.specs.Stored.{IsOctreeOf}
 use Rattle.tree_passes.specs.Counting.{times}
-use Rattle.tree_passes.proofs.Laws.{sum_of-map}
+use Rattle.tree_passes.proofs.Laws.{length-same, sum_of-map}
+use Rattle.locked_tree.proofs.Laws.{empty_canonical, octree_put}
 use Rattle.locked_tree.specs.Seen.{risen, PassState, YardCounts}
 use Rattle.orig_build.specs.declared.hands.Hand.{Hand}
 use Rattle.orig_build.specs.Hands.{EachIsDone}
-use Rattle.orig_build.proofs.Sharing.{each_of_numbers, length_of_each, shares_part, HasEach}
+use Rattle.orig_build.proofs.Sharing.{shares_part}
 use Rattle.orig_build.proofs.Taken.{all_done, all_entrusted, put_all, HasPutAll}
-use Rattle.orig_build.proofs.Whole.{empty_canonical, octree_put}
 use Rattle.orig_build.proofs.builder.build.Given.{Over}
 use Rattle.orig_build.proofs.builder.build.Goals.{After-deref-2, After-join_hands}
 use Rattle.orig_build.proofs.builder.build.Goals as goal
@@ -36,7 +37,7 @@ pub open-requires-clause-room : goal.open-requires-clause-room
 open-requires-clause-room g c =
     let count = length (arc_value c.args.points.now) in
     let all : length c.deref-2.result.now ≡ count =
-    ap length (listed g (goal.at.open-requires-clause-room g c).After-deref-2) ∙ length_of_each count (numbers count) (each_of_numbers count) in
+    ap length (listed g (goal.at.open-requires-clause-room g c).After-deref-2) ∙ length_numbers count in
     let few = c.len.ensures.rule.few in
     let sites = ap length c.deref.ensures in
     let held = c.in_ok-start.ensures.held in
@@ -82,7 +83,7 @@ returns-clause-tree g c =
     subst (λ (s : List Site). IsOctreeOf s c.close-octree.result) sites
     (octree_put c.deref-3.result.now c.in_ok-tree.tree.opening done c.join_hands.new.pass.seen c.close-octree.result
     (c.in_ok-tree.ensures.points ∙ sym sites) c.close-octree.ensures.tree (c.in_ok-tree.ensures.words 0 ∙ c.in_ok-start.ensures.empty)
-    (subst (λ (s : List Site). HasEach (length s) done) (sym sites) all.each) c.canonical_tree.ensures.rule
+    (subst (λ (s : List Site). (x : ℕ) → times x done ≡ times x (numbers (length s))) (sym sites) all.each) c.canonical_tree.ensures.rule
     c.whole-whole.ensures.bodies c.canonical_tree.ensures.tree)
 
 pub returns-clause-published : goal.returns-clause-published
@@ -92,7 +93,7 @@ returns-clause-published g c =
     let all = taken g (goal.at.returns-clause-published g c).After-join_hands in
     ap (λ (y : YardCounts). y.published) c.close-octree.ensures.counts
     ∙ ap (λ (y : YardCounts). risen y.published (length done)) c.in_ok-tree.ensures.yard
-    ∙ ap (risen c.args.yard.now.published) (length_of_each count done all.each)
+    ∙ ap (risen c.args.yard.now.published) (length-same done (numbers count) all.each ∙ length_numbers count)
 
 pub returns-clause-changes : goal.returns-clause-changes
 returns-clause-changes g c =
