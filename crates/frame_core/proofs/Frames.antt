@@ -58,12 +58,11 @@ push_is part law bodies found e =
 -- ---- equal figures
 
 -- figures by their parts
-abbrev pub figures : ℕ → ℕ → ℕ → ℕ → ℕ → ℕ → ℕ → ℤ → ℤ → ℤ → FrameFigures
-figures step bodies cells deep cost greatest met x y z = record {
+abbrev pub figures : ℕ → ℕ → ℕ → ℕ → ℕ → ℕ → ℤ → ℤ → ℤ → FrameFigures
+figures step bodies cells cost greatest met x y z = record {
   step = step;
   bodies = bodies;
   cells = cells;
-  depth = deep;
   cost = cost;
   greatest = greatest;
   met = met;
@@ -73,11 +72,10 @@ figures step bodies cells deep cost greatest met x y z = record {
 }
 
 -- figures with equal parts are equal
-pub same_figures : (step b b' c c' d d' o o' g g' m m' : ℕ) (x x' y y' z z' : ℤ) → b ≡ b' → c ≡ c' → d ≡ d' → o ≡ o' → g ≡ g' → m ≡ m' → x ≡ x' → y ≡ y'
-    → z ≡ z'
-    → figures step b c d o g m x y z ≡ figures step b' c' d' o' g' m' x' y' z'
-same_figures step b b' c c' d d' o o' g g' m m' x x' y y' z z' eb ec ed eo eg em ex ey ez =
-    ap (λ u. figures step u c d o g m x y z) eb ∙ ap (λ u. figures step b' u d o g m x y z) ec ∙ ap (λ u. figures step b' c' u o g m x y z) ed
-    ∙ ap (λ u. figures step b' c' d' u g m x y z) eo ∙ ap (λ u. figures step b' c' d' o' u m x y z) eg ∙ ap (λ u. figures step b' c' d' o' g' u x y z) em
-    ∙ ap (λ u. figures step b' c' d' o' g' m' u y z) ex ∙ ap (λ u. figures step b' c' d' o' g' m' x' u z) ey
-    ∙ ap (λ u. figures step b' c' d' o' g' m' x' y' u) ez
+pub same_figures : (step b b' c c' o o' g g' m m' : ℕ) (x x' y y' z z' : ℤ) → b ≡ b' → c ≡ c' → o ≡ o' → g ≡ g' → m ≡ m' → x ≡ x' → y ≡ y' → z ≡ z'
+    → figures step b c o g m x y z ≡ figures step b' c' o' g' m' x' y' z'
+same_figures step b b' c c' o o' g g' m m' x x' y y' z z' eb ec eo eg em ex ey ez =
+    ap (λ u. figures step u c o g m x y z) eb ∙ ap (λ u. figures step b' u o g m x y z) ec ∙ ap (λ u. figures step b' c' u g m x y z) eo
+    ∙ ap (λ u. figures step b' c' o' u m x y z) eg
+    ∙ ap (λ u. figures step b' c' o' g' u x y z) em ∙ ap (λ u. figures step b' c' o' g' m' u y z) ex ∙ ap (λ u. figures step b' c' o' g' m' x' u z) ey
+    ∙ ap (λ u. figures step b' c' o' g' m' x' y' u) ez

@@ -4,7 +4,7 @@ use Rattle.octant_code.specs.Points.{site_at}
 use Rattle.bh_model.specs.Bodies.{numbers}
 use Rattle.bh_model.specs.Plans.{TreePlan}
 use Rattle.bh_model.specs.Pulls.{PullLaw, pull}
-use Rattle.bh_model.specs.Trees.{Tree, cell_count, depth, octree, order}
+use Rattle.bh_model.specs.Trees.{Tree, cell_count, octree, order}
 use Rattle.bh_model.specs.Zones.{cost_of, greatest_cost}
 use Rattle.bh_model.specs.declared.pull.Pull.{Pull}
 use Rattle.mass_moments.specs.Kept.{matter_of}
@@ -36,7 +36,6 @@ frame_figures plan cost step bodies = record {
   step = step;
   bodies = length bodies;
   cells = cell_count (tree_of_bodies bodies);
-  depth = depth (tree_of_bodies bodies);
   cost = cost_of cost (order (tree_of_bodies bodies));
   greatest = greatest_cost cost plan.workers (tree_of_bodies bodies);
   met = sum_by (λ n. (pull_on plan.law bodies n).met) (numbers (length bodies));

@@ -144,12 +144,10 @@ impl Engine {
         let cut = zones.as_slice();
         let pulls = pulls(rt, self.alloc, tree, &moments, bodies, cut, &plan.law)?;
         let sums = sum_up(bodies, &pulls);
-        let size = tree.extent();
         let figures = Frame {
             step: self.step,
             bodies: count,
-            cells: size.cells,
-            depth: size.depth,
+            cells: tree.cells(),
             cost: moments.cost_of(&tree.whole(), costs),
             greatest: greatest_cost(cut, costs),
             met: sums.met,

@@ -3,7 +3,7 @@ use Rattle.std.specs.Prelude.{ℕ, List, [], ◌∷◌, ◌++◌, codes, length,
 use Rattle.octant_code.specs.Space.{Site}
 use Rattle.octant_code.specs.Points.{site_at}
 use Rattle.bh_model.specs.Bodies.{numbers}
-use Rattle.bh_model.specs.Trees.{Tree}
+use Rattle.bh_model.specs.Trees.{Tree, depth}
 use Rattle.bh_model.specs.Zones.{zone}
 use Rattle.bh_model.specs.declared.pull.Pull.{Pull}
 use Rattle.frame_core.specs.Engines.{EngineState, frame_of}
@@ -18,7 +18,7 @@ abbrev pub head_lines : Tree → FrameFigures → List TextLine
 head_lines tree f =
     Words (codes "frame") (Number f.step ∷ [])
     ∷ TreeLine tree
-    ∷ Words (codes "cells") (Number f.cells ∷ Word (codes "depth") ∷ Number f.depth ∷ [])
+    ∷ Words (codes "cells") (Number f.cells ∷ Word (codes "depth") ∷ Number (depth tree) ∷ [])
     ∷ Words (codes "cost") (Number f.cost ∷ Word (codes "greatest") ∷ Number f.greatest ∷ [])
     ∷ []
 

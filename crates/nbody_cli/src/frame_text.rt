@@ -32,7 +32,7 @@ fn put_head<K: Sink>(
     let size = [
         Item::Number(frame.cells as u64),
         Item::Word(b"depth"),
-        Item::Number(frame.depth as u64),
+        Item::Number(tree.depth() as u64),
     ];
     put_line(&Line::Words(b"cells", &size), buffer, sink)?;
     let cost = [

@@ -2,12 +2,11 @@
 use Rattle.std.specs.Prelude.{ℕ, ℤ, ◌-◌, ◌^◌}
 use Rattle.bh_model.specs.Pulls.{IsWithin}
 
--- the frame's number, its bodies and cells, its depth, the cost of all bodies and the greatest of a zone, the terms of all pulls, and the sums of mass times acceleration
+-- the frame's number, its bodies and cells, the cost of all bodies and the greatest of a zone, the terms of all pulls, and the sums of mass times acceleration
 pub record FrameFigures : Type 0 where
   pub step : ℕ
   pub bodies : ℕ
   pub cells : ℕ
-  pub depth : ℕ
   pub cost : ℕ
   pub greatest : ℕ
   pub met : ℕ
