@@ -1,13 +1,17 @@
 -- The first shares, body by body.
 use Rattle.std.proofs.Common.{◌≡◌, ◌≢◌, ◌∙◌, ◌<◌, ◌+◌, ◌*◌, ◌/◌, ℕ, Bool, true, false, List, [], ◌∷◌, ◌++◌, get_or, length, map, set, replicate, refl, sym}
-use Rattle.std.proofs.Common.{ap, subst, arith, inl, inr, add-one, length-set, eqb, cond, filter}
+use Rattle.std.proofs.Common.{ap, subst, arith, inl, inr, add-one, length-set, eqb, cond, filter, ◌≤◌}
+use Rattle.std.proofs.Math.Nat.{div-lt_iff_lt-mul, mul-le-mul_left}
 use Rattle.std.proofs.lemmas.Bool.Decides.{eqb_tells}
 use Rattle.std.proofs.lemmas.List.{append-nil, ext_get_or, get_or-map, get_or-set_same, get_or-set_other, length-map, map-set}
 use Rattle.std.proofs.lemmas.List.Elements.{filter-append}
 use Rattle.std.proofs.lemmas.Simd.{splat_is_map}
 use Rattle.bh_model.proofs.Standing.{length_numbers}
 use Rattle.bh_model.specs.Bodies.{numbers}
-use Rattle.frame_core.specs.Shares.{share_below}
+use Rattle.bh_model.specs.Plans.{HasWorkers}
+use Rattle.orig_build.specs.Shares.{AreShares}
+use Rattle.orig_build.proofs.Laws.{owned_are_shares}
+use Rattle.frame_core.specs.Shares.{first_shares, share_below}
 use Rattle.frame_core.proofs.Rows.{length-values, numbers-none, numbers-suc, value_at_place}
 
 -- the shares of no bodies
@@ -57,3 +61,16 @@ shares_more its xs y d n workers count own is less joins before =
           ∙ sym (ap (λ b. grown b (f k) n) u.0))
     ]
     ∙ sym (new k within))
+
+-- a body's share is that of a worker
+pub own_less : (n w k : ℕ) → 0 < w → n < k → n * w / k < w
+own_less n w k some less =
+    let positive : 0 < k = omega arith in
+    let next : n + 1 ≤ k = omega arith in
+    (div-lt_iff_lt-mul positive).1 (omega (arith, mul-le-mul_left w next))
+
+-- the first shares hold each body once
+pub first_are_shares : (workers count : ℕ) (shares : List (List ℕ)) → HasWorkers workers → shares ≡ first_shares workers count → AreShares count shares
+first_are_shares workers count shares many e =
+    subst (AreShares count) (sym e)
+    (owned_are_shares workers count (λ n. n * workers / count) many.0 many.1 (λ n l. own_less n workers count many.0 l))

@@ -4,6 +4,7 @@ use Rattle.std.specs.List.{All}
 use Rattle.bh_model.specs.Zones.{zones}
 use Rattle.force_walk.specs.Walks.{pulls}
 use Rattle.mass_moments.specs.Kept.{IsCost, cost_at, matter_of}
+use Rattle.orig_build.specs.Shares.{AreShares}
 use Rattle.scene_file.specs.Bodies.{sites_of}
 use Rattle.frame_core.specs.Engines.{EngineStage, EngineState, WithoutTree, WithTree, WithFrame, Spent as IsSpent, at_rest, first_exact, frame_of}
 use Rattle.frame_core.specs.Frames.{tree_of_bodies}
@@ -50,8 +51,9 @@ KeepsStage e held.Tree = HasLast e
 KeepsStage e (held.Frame parts) = HasLast e × AreParts e parts
 KeepsStage e held.Spent = ⊤
 
--- what every engine keeps: a cost from 1 to 65,536 for each body, and what its stage says
+-- what every engine keeps: a cost from 1 to 65,536 for each body, shares that hold each body once, and what its stage says
 pub record IsEngine (e : EngineState) (stage : Stage) : Type 0 where
   pub one_cost_each : length e.costs ≡ length e.bodies
   pub cost : All IsCost e.costs
+  pub shares : AreShares (length e.bodies) e.shares
   pub at_stage : KeepsStage e stage

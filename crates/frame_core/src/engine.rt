@@ -7,8 +7,10 @@ use crate::stage::{FrameParts, Stage};
 use crate::sums::{greatest_cost, sum_up};
 use crate::tree::KeptTree;
 use bh_model::{Plan, Pull};
+use build_gate::Gate;
 use costzones::zones;
 use force_walk::pulls;
+use locked_tree::LockedYard;
 use mass_moments::moments;
 use octant_code::{OutOfMemory, Point};
 use octree::Octree;
@@ -16,6 +18,8 @@ use probe::Frame;
 use scene_file::Bodies;
 use std::alloc::Global;
 use std::marker::Model;
+use std::sync::Wait;
+use std::thread::Threads;
 
 /// The bodies of a run with what is made for them: their octree, and the zones and the pulls of their
 /// frame. Once a call was refused for want of memory the engine is spent, and nothing more is asked
@@ -53,9 +57,11 @@ impl Engine {
     ghost use Rattle.std.specs.Prelude.{◌≡◌, ◌<◌, IfOk, IsErr, OnErr, OnOk, length};
     ghost use Rattle.octant_code.specs.Points.{site_at};
     ghost use Rattle.bh_model.specs.Zones.{zone};
+    ghost use Rattle.bh_model.specs.declared.plan.Builder.TheVariants.{Orig};
     ghost use Rattle.frame_core.specs.Engines.{HasTree, IsUsable, Spent, WithFrame, WithTree, WithoutTree, frame_of, opened, with_frame, with_tree};
     ghost use Rattle.frame_core.specs.Frames.{pull_on, tree_of_bodies};
     ghost use Rattle.frame_core.specs.Held.{AreParts};
+    ghost use Rattle.locked_tree.specs.Seen.{risen};
     ghost use Rattle.mass_moments.specs.Kept.{cost_at};
     ghost use Rattle.octree.specs.Stored.{IsOctreeOf, tree_of};
     ghost use Rattle.scene_file.specs.Bodies.{sites_of};
@@ -83,17 +89,29 @@ impl Engine {
         })
     }
 
-    /// Makes the canonical octree of the bodies' points.
+    /// Makes the canonical octree of the bodies' points: the workers build it, each its share of the
+    /// bodies, and pass the gate. The yard counts a body and a publication for each body. It may wait.
     ///
     /// # Errors
     ///
-    /// `OutOfMemory` for want of memory. The engine is spent then.
-    pub fn tree(&mut self) -> Result<(), OutOfMemory>
-        requires { self.old.stage ≡ WithoutTree }
+    /// `OutOfMemory` for want of memory. The engine is spent then, and the yard as it was.
+    pub fn tree<R: Threads + Wait + Sync, G: Gate>(
+        &mut self,
+        rt: &R,
+        locked: &mut LockedYard,
+        gate: &G,
+    ) -> Result<(), OutOfMemory>
+        requires builder { self.old.plan.builder ≡ Orig }
+        requires bare { self.old.stage ≡ WithoutTree }
         ensures made { OnOk result (self.new ≡ with_tree self.old) }
         ensures refused { OnErr result (self.new.stage ≡ Spent) }
+        ensures published { OnOk result (locked.new.published ≡ risen locked.old.published (length self.old.bodies)) }
+        ensures changes { OnOk result (locked.new.changes ≡ risen locked.old.changes (length self.old.bodies)) }
+        ensures kept { OnErr result (locked.new ≡ locked.old) }
     {
-        match KeptTree::make(self.alloc, self.plan.builder, &self.bodies) {
+        let builder = self.plan.builder;
+        let shares = self.shares.as_slice();
+        match KeptTree::make(rt, self.alloc, builder, &self.bodies, shares, locked, gate) {
             Ok(tree) => {
                 self.last = Some(tree);
                 self.stage = Stage::Tree;

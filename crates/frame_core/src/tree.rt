@@ -1,44 +1,66 @@
 //! The trees that an engine makes.
 
-ghost use Rattle.std.specs.Prelude.{◌≡◌, IfOk};
+ghost use Rattle.std.specs.Prelude.{◌≡◌, IfOk, OnErr, OnOk, length, map};
+ghost use Rattle.bh_model.specs.declared.plan.Builder.TheVariants.{Orig};
+ghost use Rattle.locked_tree.specs.Seen.{risen};
 ghost use Rattle.octree.specs.Stored.{IsOctreeOf};
+ghost use Rattle.orig_build.specs.Shares.{AreShares};
 ghost use Rattle.scene_file.specs.Bodies.{sites_of};
 
 use bh_model::Builder;
+use build_gate::Gate;
+use locked_tree::LockedYard;
 use octant_code::{OutOfMemory, Points};
 use octree::Octree;
 use scene_file::Bodies;
 use std::alloc::Global;
 use std::marker::Model;
+use std::sync::{Arc, Wait};
+use std::thread::Threads;
 
 /// An octree, and the points that it was made for. Contracts see it as the list of these points.
 #[derive(Drop)]
 pub struct KeptTree {
-    points: Points,
+    points: Arc<Points>,
     octree: Octree,
 }
 
 impl Model for KeptTree {
     ghost use Rattle.std.specs.Prelude.{List};
+    ghost use Rattle.std.specs.Arc.{arc_value};
     ghost use Rattle.octant_code.specs.Space.{Site};
     ghost use Rattle.octree.specs.Stored.{IsOctreeOf};
 
     ghost Value = { List Site };
 
-    ghost view = { λ k. k.points };
+    ghost view = { λ k. arc_value k.points };
 
-    ghost invariant = { λ k. IsOctreeOf k.points k.octree };
+    ghost invariant = { λ k. IsOctreeOf (arc_value k.points) k.octree };
 }
 
 impl KeptTree {
-    /// The canonical octree of the bodies' points, made by a builder.
-    pub fn make(alloc: Global, builder: Builder, bodies: &Bodies) -> Result<KeptTree, OutOfMemory>
-        ensures { IfOk result (λ k. k ≡ sites_of bodies.now) }
+    /// The canonical octree of the bodies' points, made by a builder, each of whose workers builds its
+    /// share of the bodies. It may wait.
+    pub fn make<R: Threads + Wait + Sync, G: Gate>(
+        rt: &R,
+        alloc: Global,
+        builder: Builder,
+        bodies: &Bodies,
+        shares: &[Vec<u32>],
+        locked: &mut LockedYard,
+        gate: &G,
+    ) -> Result<KeptTree, OutOfMemory>
+        requires builder { builder ≡ Orig }
+        requires shares { AreShares (length bodies.now) (map (λ s. s.items) shares.now) }
+        ensures points { IfOk result (λ k. k ≡ sites_of bodies.now) }
+        ensures published { OnOk result (locked.new.published ≡ risen locked.old.published (length bodies.now)) }
+        ensures changes { OnOk result (locked.new.changes ≡ risen locked.old.changes (length bodies.now)) }
+        ensures kept { OnErr result (locked.new ≡ locked.old) }
     {
-        let points = bodies.points(alloc)?;
+        let points = Arc::new(alloc, bodies.points(alloc)?)?;
         let octree = match builder {
-            Builder::Orig | Builder::Local | Builder::Update | Builder::Partree | Builder::Space =>
-                Octree::of_points(alloc, &points)?,
+            Builder::Orig => orig_build::build(rt, alloc, locked, &points, shares, gate)?,
+            Builder::Local | Builder::Update | Builder::Partree | Builder::Space => unreachable!(),
         };
         Ok(KeptTree { points, octree })
     }

@@ -1,10 +1,9 @@
-use Rattle.std.proofs.Common.{◌≡◌, ◌∙◌, ◌<◌, ◌≤◌, ◌+◌, ◌*◌, ◌/◌, ℕ, [], ◌∷◌, ◌++◌, length, map, ap, arith}
-use Rattle.std.proofs.Math.Nat.{div-lt_iff_lt-mul, mul-le-mul_left}
+use Rattle.std.proofs.Common.{◌≡◌, ◌∙◌, ◌*◌, ◌/◌, ℕ, [], ◌∷◌, ◌++◌, length, map, ap, arith}
 use Rattle.std.proofs.lemmas.List.{length-map}
 use Rattle.bh_model.specs.Bodies.{numbers}
 use Rattle.frame_core.specs.Shares.{share_below}
 use Rattle.frame_core.proofs.Rows.{length-values}
-use Rattle.frame_core.proofs.Sharing.{shares-none, shares_more}
+use Rattle.frame_core.proofs.Sharing.{own_less, shares-none, shares_more}
 use Rattle.frame_core.proofs.shares.first_shares.Goals as goal
 
 pub loop-n-init : goal.loop-n-init
@@ -13,12 +12,6 @@ loop-n-init c = c.in_ok-shares.ensures ∙ shares-none c.args.workers c.args.cou
 -- the share of a body, from the numbers that are divided
 own_is : (n n' w w' k k' : ℕ) → n' ≡ n → w' ≡ w → k' ≡ k → n' * w' / k' ≡ n * w / k
 own_is n n' w w' k k' a b c = cc
-
-own_less : (n w k : ℕ) → 0 < w → n < k → n * w / k < w
-own_less n w k some less =
-    let positive : 0 < k = omega arith in
-    let next : n + 1 ≤ k = omega arith in
-    (div-lt_iff_lt-mul positive).1 (omega (arith, mul-le-mul_left w next))
 
 pub index_mut-requires : goal.index_mut-requires
 index_mut-requires c =
