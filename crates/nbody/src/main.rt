@@ -2,6 +2,8 @@
 #![tactic(auto)]
 
 use bh_outside::{StdSink, StdSource};
+use build_gate::OpenGate;
+use locked_tree::LockedYard;
 use nbody_cli::serve;
 use std::alloc::{AllocError, Global};
 use std::process::ExitCode;
@@ -39,5 +41,7 @@ fn main(rt: HostRuntime) -> ExitCode {
     };
     let mut source = StdSource::new(rt.stdin());
     let mut sink = StdSink::new(rt.stdout());
-    ExitCode::from(serve(&rt, &words, &mut source, &mut sink).number())
+    let mut locked = LockedYard::new();
+    let status = serve(&rt, &words, &mut source, &mut sink, &mut locked, &OpenGate);
+    ExitCode::from(status.number())
 }
