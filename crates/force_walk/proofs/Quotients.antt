@@ -10,6 +10,7 @@ use mir.Val.{to_z, of_z}
 use Rattle.octant_code.specs.Space.{Site, squared_distance}
 use Rattle.std.proofs.lemmas.Int.{ints}
 use Rattle.octant_code.specs.Numbers.{root}
+use Rattle.octant_code.proofs.Distances.{squared_distance-parts}
 use Rattle.octant_code.proofs.Roots.{root-is}
 use Rattle.bh_model.specs.Pulls.{IsWithin, PullLaw, component, term}
 use Rattle.force_walk.specs.Short.{IsRate}
@@ -74,34 +75,44 @@ component-shared-down scale from to divisor rate gap unit slack down is_gap is s
     ap (λ n. neg_ℤ (pos n)) (share-is scale divisor rate gap unit slack is sure some) ∙ ap (λ n. neg_ℤ (pos (scale * n / divisor))) g
     ∙ sym (component-down scale from to divisor down)
 
--- and either way
-pub component-shared : (scale from to divisor rate gap unit slack : ℕ) → gap ≡ abs_diff from to → IsRate scale divisor unit slack rate
-    → rate * gap % unit + slack * gap ≤ unit → 0 < unit
-    → cond (leb from to) (pos (rate * gap / unit)) (neg_ℤ (pos (rate * gap / unit))) ≡ component scale from to divisor
-component-shared scale from to divisor rate gap unit slack is_gap is sure some =
-    elim (cases_lt to from) [
-      | inl down ↦ let q = component-shared-down scale from to divisor rate gap unit slack (omega arith) is_gap is sure some in grind (arith, nat_tests)
-      | inr up ↦ let q = component-shared-up scale from to divisor rate gap unit slack up is_gap is sure some in grind (arith, nat_tests)
-    ]
-
--- a divisor fits
-pub divisor_fits : (r2 r : ℕ) → r2 < 2 ^ 45 → r < 2 ^ 23 → r2 * r < 2 ^ 68
-divisor_fits r2 r p q = omega (arith, mul-lt r2 r (2 ^ 45) (2 ^ 23) p q)
-
--- where its root is short
+-- a number with a short root
 pub short_fits : (n r : ℕ) → r < 2 ^ 21 → n < (r + 1) * (r + 1) → n < 2 ^ 42
 short_fits n r short next = omega (arith, mul-le (r + 1) (r + 1) (2 ^ 21) (2 ^ 21) (omega arith) (omega arith))
 
-pub short_divisor_fits : (r2 r : ℕ) → r2 < 2 ^ 42 → r < 2 ^ 21 → r2 * r < 2 ^ 63
-short_divisor_fits r2 r p q = omega (arith, mul-lt r2 r (2 ^ 42) (2 ^ 21) p q)
+-- no gap is longer than the root
+gap-below : (n r gap : ℕ) → gap * gap ≤ n → n < (r + 1) * (r + 1) → gap ≤ r
+gap-below n r gap low next =
+    elim (cases_lt r gap) [ inl longer ↦ absurd (omega (arith, mul-le (r + 1) (r + 1) gap gap (omega arith) (omega arith))) | inr le ↦ le ]
 
--- a root fits
-pub root_fits : (n r : ℕ) → n < 2 ^ 45 → r * r ≤ n → r < 2 ^ 23
-root_fits n r h low =
-    elim (cases_lt r (2 ^ 23)) [
-      | inl p ↦ p
-      | inr ge ↦ absurd (omega (arith, mul-le (2 ^ 23) (2 ^ 23) r r ge ge))
-    ]
+-- so the product of a rate and a gap is short where that of the rate and the root is
+product_fits : (scale r2 r rate gap unit slack : ℕ) → IsRate scale (r2 * r) unit slack rate → scale * unit < r2 * 2 ^ 63 → gap * gap ≤ r2
+    → r2 < (r + 1) * (r + 1) → rate * gap < 2 ^ 63
+product_fits scale r2 r rate gap unit slack is short low next =
+    let most : rate * r < 2 ^ 63 = factor-out (rate * r) (2 ^ 63) r2 (omega (arith, is.low, mul_right_comm rate r r2)) in
+    omega (arith, mul-le rate gap rate r (omega arith) (gap-below r2 r gap low next))
+
+-- along all three axes
+pub record ProductsFit (rate : ℕ) (s t : Site) : Type 0 where
+  pub x : rate * abs_diff s.x t.x < 2 ^ 63
+  pub y : rate * abs_diff s.y t.y < 2 ^ 63
+  pub z : rate * abs_diff s.z t.z < 2 ^ 63
+
+pub products_fit : (scale r2 r rate unit slack : ℕ) (s t : Site) → IsRate scale (r2 * r) unit slack rate → scale * unit < r2 * 2 ^ 63
+    → squared_distance s t ≤ r2 → r2 < (r + 1) * (r + 1) → ProductsFit rate s t
+products_fit scale r2 r rate unit slack s t is short near next =
+    let parts = squared_distance-parts s t in
+    let fits : (gap : ℕ) → gap * gap ≤ squared_distance s t → rate * gap < 2 ^ 63 =
+    λ gap within. product_fits scale r2 r rate gap unit slack is short (omega (arith, within, near)) next in
+    record {
+      x = fits (abs_diff s.x t.x) (omega (arith, parts));
+      y = fits (abs_diff s.y t.y) (omega (arith, parts));
+      z = fits (abs_diff s.z t.z) (omega (arith, parts));
+    }
+
+-- a distance of points as they are seen
+pub seen_distance : (d2 : ℕ) (from s to t : Site) → from ≡ s → to ≡ t → d2 ≡ squared_distance s t → d2 ≡ squared_distance from to
+seen_distance d2 from s to t from_is to_is d2_is =
+    d2_is ∙ ap (λ k. squared_distance k t) (sym from_is) ∙ ap (λ k. squared_distance from k) (sym to_is)
 
 -- a term from its three coordinates
 pub one-term : (law : PullLaw) (mass : ℕ) (from s to t : Site) (scale d2 r2 r divisor : ℕ) (x y z : ℤ) → from ≡ s → to ≡ t → scale ≡ law.g * mass
@@ -109,7 +120,7 @@ pub one-term : (law : PullLaw) (mass : ℕ) (from s to t : Site) (scale d2 r2 r 
     → x ≡ component scale from.x to.x divisor → y ≡ component scale from.y to.y divisor → z ≡ component scale from.z to.z divisor
     → one_pull x y z ≡ term law mass s t
 one-term law mass from s to t scale d2 r2 r divisor x y z from_is to_is scale_is d2_is r2_is r_is divisor_is p q v =
-    let start : d2 ≡ squared_distance from to = d2_is ∙ ap (λ k. squared_distance k t) (sym from_is) ∙ ap (λ k. squared_distance from k) (sym to_is) in
+    let start = seen_distance d2 from s to t from_is to_is d2_is in
     term-from law mass from to scale r2 r x y z scale_is (r2_is ∙ ap (λ k. k + law.eps2) start) r_is
     (p ∙ ap (λ d. component scale from.x to.x d) divisor_is) (q ∙ ap (λ d. component scale from.y to.y d) divisor_is)
     (v ∙ ap (λ d. component scale from.z to.z d) divisor_is)

@@ -7,8 +7,8 @@ ghost use Rattle.force_walk.specs.Flat.{IsLaid, holds, is_opened, walked};
 
 use crate::node::WalkNode;
 use crate::short_pull::ShortPull;
-use crate::term::{short_term, wide_term};
-use bh_model::{Law, Pull};
+use crate::term::short_term;
+use bh_model::{Law, Pull, plain_term};
 use octant_code::Point;
 
 /// The squared distance of two points, by the gaps with a sign that a term is made of.
@@ -61,8 +61,7 @@ fn add_wide(sum: &mut Pull, law: &Law, node: &WalkNode, from: Point)
     requires small { IsSmall ((2 ^ 32 - 2) * 2 ^ 80) (2 ^ 32 - 2) sum.old }
     ensures { sum.new ≡ add_pull sum.old (term law.now node.now.mass from node.now.at) }
 {
-    let d2 = squared_gaps(from, node.at);
-    *sum = sum.plus(wide_term(law, node.mass, from, node.at, d2));
+    *sum = sum.plus(plain_term(law, node.mass, from, node.at));
 }
 
 /// The sum of the terms of the nodes that a body takes: the node of each other body that it comes to, and

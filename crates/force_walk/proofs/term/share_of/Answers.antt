@@ -20,10 +20,13 @@ within_up q h = record { low = omega (arith, ints); high = omega (arith, ints) }
 within_down : (q : ℕ) → q < 2 ^ 31 → IsWithin (2 ^ 31) (neg_ℤ (pos q))
 within_down q h = record { low = omega (arith, ints); high = omega (arith, ints) }
 
+-- the product as the code has it
+product_small : (c : After-share) → c.args.rate * c.from-size.result < 2 ^ 63
+product_small c = subst (λ g. c.args.rate * g < 2 ^ 63) (sym (c.from-size.ensures ∙ c.abs_diff.ensures)) c.requires.small
+
 small : (c : After-share) → IsWithin (2 ^ 31) c.share.result
 small c =
-    let whole : c.args.rate * c.from-size.result < 2 ^ 63 =
-    omega (arith, mul-lt c.args.rate c.from-size.result (2 ^ 42) (2 ^ 21) c.requires.rate_fits (omega (arith, c.from-size.ensures, c.abs_diff.ensures))) in
+    let whole : c.args.rate * c.from-size.result < 2 ^ 63 = product_small c in
     let part : c.args.rate * c.from-size.result / 2 ^ 32 < 2 ^ 31 = omega arith in
     elim (cases_lt c.args.to c.args.from) [
       | inl down ↦ subst (IsWithin (2 ^ 31)) (sym (share_down c down)) (within_down _ part)
@@ -38,11 +41,11 @@ returns-then-is_sure-clause-value c =
     ∙ (elim (cases_lt c.args.to c.args.from) [
       | inl down ↦
           share_down c down
-          ∙ component-shared-down scale c.args.from c.args.to divisor c.args.rate c.from-size.result (2 ^ 32) 1 (omega arith)
+          ∙ component-shared-down scale c.args.from c.args.to divisor c.args.rate c.from-size.result (2 ^ 32) 2 (omega arith)
           (c.from-size.ensures ∙ c.abs_diff.ensures) rate (omega (arith, sure)) (omega arith)
       | inr up ↦
           share_up c up
-          ∙ component-shared-up scale c.args.from c.args.to divisor c.args.rate c.from-size.result (2 ^ 32) 1 up (c.from-size.ensures ∙ c.abs_diff.ensures)
+          ∙ component-shared-up scale c.args.from c.args.to divisor c.args.rate c.from-size.result (2 ^ 32) 2 up (c.from-size.ensures ∙ c.abs_diff.ensures)
           rate (omega (arith, sure)) (omega arith)
     ])
 
