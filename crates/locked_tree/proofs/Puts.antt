@@ -1,6 +1,5 @@
 -- Facts between the steps of an insertion under locks.
-use Rattle.std.proofs.Common.{◌≡◌, ◌≢◌, ℕ, ◌+◌, ◌*◌, ◌-◌, ◌^◌, ◌<◌, ◌≤◌, List, [], ◌∷◌, ◌++◌, length, take, set, sym, refl, ap, length-append, ◌∙◌, subst}
-use Rattle.std.proofs.Common.{inl, arith}
+use Rattle.std.proofs.Common.{◌≡◌, ◌≢◌, ℕ, ◌+◌, ◌*◌, ◌-◌, ◌^◌, ◌<◌, ◌≤◌, List, [], ◌∷◌, ◌++◌, length, take, set, sym, refl, ap, length-append, ◌∙◌, subst, inl, arith}
 use mathlib.Core.Logic.{dite}
 use native.Mathlib.Decide.{ℕ_discrete}
 use Rattle.std.proofs.lemmas.List.{length-take-le, take_all, take_more_set}
@@ -9,7 +8,7 @@ use Rattle.octant_code.specs.Space.{Site, key_of, octant_of}
 use Rattle.octant_code.specs.Points.{site_at, ArePoints}
 use Rattle.octant_code.proofs.Keys.{key-suc, key-zero}
 use Rattle.tree_rule.specs.declared.words.TheConstants.{CELLS_OF_ONE, MOST_CELLS, POOL_PLACE, ROOT_LOCK}
-use Rattle.tree_rule.specs.Words.{child_place, lock_place, body_word}
+use Rattle.tree_rule.specs.Words.{child_place, lock_place}
 use Rattle.tree_rule.proofs.Laws.{ACell, NoBody, OneBody, WordIs, word_is}
 use Rattle.octree.specs.Stored.{word_count}
 use Rattle.tree_passes.specs.declared.view.View.{View}
@@ -26,7 +25,7 @@ use Rattle.locked_tree.specs.declared.insert.Turn.{Turn}
 use Rattle.locked_tree.specs.declared.insert.Turn.TheVariants as turn
 use Rattle.locked_tree.specs.declared.tree.Pool.{Pool}
 use Rattle.locked_tree.specs.declared.tree.Pool.TheVariants as pool
-use Rattle.locked_tree.specs.Inserting.{AreTaken, HasDrawn, IsAt, IsOver, IsPutIn, LeadsTo, QuotaFalls}
+use Rattle.locked_tree.specs.Inserting.{AreTaken, HasDrawn, IsAt, IsPutIn, LeadsTo, QuotaFalls}
 
 -- what a word tells is small
 pub word_small : (v : View) (key value : ℕ) → Tells v key value → ArePoints v.points → length v.memory ≤ word_count MOST_CELLS → value < 2 ^ 33
@@ -131,24 +130,15 @@ word_at v u words sites n s key value h t at =
     word_small u key value t (subst ArePoints (sym (h.points ∙ at.points)) at.rule) (let a = h.long in let b = at.long in let f = at.few in omega arith)
 
 -- cells were drawn meanwhile
-at_drawn : (v w : View) (cells : List ℕ) (words : ℕ) (sites : List Site) (n : ℕ) (s : Spot) → HasDrawn v w cells → IsAt v words sites n s
+pub at_drawn : (v w : View) (cells : List ℕ) (words : ℕ) (sites : List Site) (n : ℕ) (s : Spot) → HasDrawn v w cells → IsAt v words sites n s
     → IsAt w words sites n s
 at_drawn v w cells words sites n s d at =
     at_on v w words sites n s (ap (λ (z : View). z.points) d.view) d.long (ap (λ (z : View). z.todo) d.view)
     (subst (λ (z : View). KnowsPlace z s.word (key_of (site_at sites n) s.level)) (sym d.view) at.known) at
 
-there_drawn : (v w : View) (cells : List ℕ) (word key x : ℕ) → HasDrawn v w cells → IsThere v word key x → IsThere w word key x
+pub there_drawn : (v w : View) (cells : List ℕ) (word key x : ℕ) → HasDrawn v w cells → IsThere v word key x → IsThere w word key x
 there_drawn v w cells word key x d t = subst (λ (z : View). IsThere z word key x) (sym d.view)
     (record { note = t.note; body = record { under = t.body.under; not_todo = t.body.not_todo; x_in = t.body.x_in } })
-
-pub over_drawn : (v w : View) (cells : List ℕ) (words : ℕ) (sites : List Site) (n x : ℕ) (s : Spot) → HasDrawn v w cells
-    → IsOver v words sites n x s → IsOver w words sites n x s
-over_drawn v w cells words sites n x s d o = record {
-  at = at_drawn v w cells words sites n s d o.at;
-  held = ap (λ (z : View). z.locks) d.view ∙ o.held;
-  loaded = subst (λ (z : View). Has z.under (s.word, body_word x)) (sym d.view) o.loaded;
-  there = there_drawn v w cells s.word (key_of (site_at sites n) s.level) x d o.there;
-}
 
 -- a publication under the lock has put the body in
 pub inserted_put : (v w : View) (n : ℕ) (cells : List ℕ) (under : List (ℕ × ℕ)) → ((c : ℕ) → times c cells ≤ times c v.held)

@@ -1,6 +1,5 @@
 -- What a pass is between its calls, after an insertion and after a search.
-use Rattle.std.proofs.Common.{◌≡◌, ℕ, zero, suc, ◌+◌, ◌<◌, ◌≤◌, cond, Bool, true, false, Option, None, Some, IfNone, IfSome, List, [], ◌∷◌, length, take}
-use Rattle.std.proofs.Common.{drop, refl, sym, ap, ◌∙◌, subst, arith, eq-eqb, ne_eqb}
+use Rattle.std.proofs.Common.{◌≡◌, ℕ, zero, suc, ◌+◌, ◌<◌, ◌≤◌, cond, Bool, true, false, Option, None, Some, IfNone, IfSome, List, [], ◌∷◌, length, take, drop, refl, sym, ap, ◌∙◌, subst, arith, eq-eqb, ne_eqb}
 use Rattle.std.proofs.lemmas.List.{length-drop, length-take-le}
 use mathlib.Core.Logic.{dite}
 use native.Mathlib.Decide.{ℕ_discrete}
@@ -13,11 +12,12 @@ use Rattle.tree_passes.specs.declared.view.View.{View}
 use Rattle.tree_passes.specs.Counting.{times, without}
 use Rattle.tree_passes.specs.Looks.{Sought}
 use Rattle.tree_passes.specs.Turns.{HasFound, HasNone, IsStill}
-use Rattle.tree_passes.proofs.Laws.{length-without, ready_still, same-ne, times-without}
+use Rattle.tree_passes.proofs.Laws.{ready_still, same-ne, times-without}
 use Rattle.locked_tree.specs.declared.tree.Pool.{Pool}
 use Rattle.locked_tree.specs.declared.tree.Pool.TheVariants as pool
 use Rattle.locked_tree.specs.Inserting.{IsPutIn}
 use Rattle.locked_tree.specs.Seen.{HasStock, IsAtRest}
+use Rattle.locked_tree.proofs.Rests.{length-without}
 
 pub true_not_false : true ≡ false → ⊥
 true_not_false e = cc

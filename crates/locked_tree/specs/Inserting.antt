@@ -4,13 +4,13 @@ use Rattle.octant_code.specs.declared.limits.TheConstants.{LEVELS}
 use Rattle.octant_code.specs.Space.{Site, key_of}
 use Rattle.octant_code.specs.Points.{site_at, ArePoints}
 use Rattle.tree_rule.specs.declared.words.TheConstants.{CELLS_OF_ONE, MOST_CELLS, POOL_PLACE}
-use Rattle.tree_rule.specs.Words.{lock_place, body_word}
+use Rattle.tree_rule.specs.Words.{lock_place}
 use Rattle.octree.specs.Stored.{word_count}
 use Rattle.tree_passes.specs.declared.view.View.{View}
-use Rattle.tree_passes.specs.Counting.{times, Has, without}
+use Rattle.tree_passes.specs.Counting.{times, without}
 use Rattle.tree_passes.specs.Locks.{IsLockOf}
 use Rattle.tree_passes.specs.Passes.{KnowsPlace}
-use Rattle.tree_passes.specs.Turns.{Descends, IsThere}
+use Rattle.tree_passes.specs.Turns.{Descends}
 use Rattle.locked_tree.specs.declared.insert.Spot.{Spot}
 use Rattle.locked_tree.specs.declared.insert.Turn.{Turn}
 use Rattle.locked_tree.specs.declared.insert.Turn.TheVariants as turn
@@ -54,13 +54,6 @@ pub record IsAt (v : View) (words : ℕ) (sites : List Site) (n : ℕ) (s : Spot
   pub known : KnowsPlace v s.word (key_of (site_at sites n) s.level)
   pub lock_inside : s.lock < words
   pub lock_is : IsLockOf s.word s.lock
-
--- The pass holds the lock of a word that it has come to, and loaded under it that the word names body x.
-pub record IsOver (v : View) (words : ℕ) (sites : List Site) (n x : ℕ) (s : Spot) : Type 0 where
-  pub at : IsAt v words sites n s
-  pub held : v.locks ≡ s.lock ∷ []
-  pub loaded : Has v.under (s.word, body_word x)
-  pub there : IsThere v s.word (key_of (site_at sites n) s.level) x
 
 -- What a visit of a word leads to: body n is put in, with so many of the cells, or the way goes on below a cell that the word names.
 abbrev pub LeadsTo : View → View → ℕ → Pool → List ℕ → ℕ → Turn → Type 0

@@ -6,7 +6,7 @@ ghost use Rattle.octant_code.specs.Space.{key_of};
 ghost use Rattle.octant_code.specs.Points.{site_at};
 ghost use Rattle.octree.specs.Stored.{word_count};
 ghost use Rattle.tree_passes.specs.declared.view.Writing.TheVariants.{UnderLocks};
-ghost use Rattle.tree_passes.specs.Counting.{times};
+ghost use Rattle.tree_passes.specs.Counting.{Has, times};
 ghost use Rattle.tree_passes.specs.Locks.{IsLock};
 ghost use Rattle.tree_passes.specs.Making.{cells_between, IsReady};
 ghost use Rattle.tree_passes.specs.Turns.{IsInserted, IsThere};
@@ -14,7 +14,7 @@ ghost use Rattle.tree_rule.specs.Words.{body_word};
 ghost use Rattle.tree_rule.specs.declared.words.TheConstants.{CELLS_OF_ONE, MOST_CELLS, POOL_PLACE};
 ghost use Rattle.locked_tree.specs.declared.tree.Pool.TheVariants as pool_is;
 ghost use Rattle.locked_tree.specs.Seen.{HasStock};
-ghost use Rattle.locked_tree.specs.Inserting.{HasDrawn, IsAt, IsOver, IsPutIn, LeadsTo};
+ghost use Rattle.locked_tree.specs.Inserting.{HasDrawn, IsAt, IsPutIn, LeadsTo};
 
 use crate::tree::Pool;
 use octant_code::{LEVELS, Point, Points, key_at, octant};
@@ -107,7 +107,10 @@ fn put_over(
 ) -> usize
     requires locks { table.now.key.writing ≡ UnderLocks }
     requires place { pass.old.table_id ≡ table.now.table_id }
-    requires over { IsOver pass.old.me.0 table.now.table_id.words points.now n x spot }
+    requires at { IsAt pass.old.me.0 table.now.table_id.words points.now n spot }
+    requires held { pass.old.me.0.locks ≡ spot.lock ∷ [] }
+    requires loaded { Has pass.old.me.0.under (spot.word, body_word x) }
+    requires there { IsThere pass.old.me.0 spot.word (key_of (site_at points.now n) spot.level) x }
     requires ready { IsReady pass.old.me.0 table.now.table_id.words spare.now }
     requires room { cells_between (site_at points.now x) (site_at points.now n) spot.level (LEVELS - spot.level) ≤ length spare.now }
     ensures pass { (pass.new.table_id ≡ pass.old.table_id) × (pass.new.me.1 ≡ pass.old.me.1) }
@@ -136,7 +139,10 @@ fn put_over(
 fn draw_over(table: &Words, pass: &mut Pass, points: &Points, x: u32, n: u32, spot: Spot)
     requires locks { table.now.key.writing ≡ UnderLocks }
     requires place { pass.old.table_id ≡ table.now.table_id }
-    requires over { IsOver pass.old.me.0 table.now.table_id.words points.now n x spot }
+    requires at { IsAt pass.old.me.0 table.now.table_id.words points.now n spot }
+    requires held { pass.old.me.0.locks ≡ spot.lock ∷ [] }
+    requires loaded { Has pass.old.me.0.under (spot.word, body_word x) }
+    requires there { IsThere pass.old.me.0 spot.word (key_of (site_at points.now n) spot.level) x }
     requires quota { CELLS_OF_ONE ≤ pass.old.me.0.quota }
     ensures pass { (pass.new.table_id ≡ pass.old.table_id) × (pass.new.me.1 ≡ pass.old.me.1) }
     ensures put { IsPutIn pass.old.me.0 pass.new.me.0 n pool_is.Shared [] }
@@ -160,7 +166,10 @@ fn cover(
 ) -> usize
     requires locks { table.now.key.writing ≡ UnderLocks }
     requires place { pass.old.table_id ≡ table.now.table_id }
-    requires over { IsOver pass.old.me.0 table.now.table_id.words points.now n x spot }
+    requires at { IsAt pass.old.me.0 table.now.table_id.words points.now n spot }
+    requires held { pass.old.me.0.locks ≡ spot.lock ∷ [] }
+    requires loaded { Has pass.old.me.0.under (spot.word, body_word x) }
+    requires there { IsThere pass.old.me.0 spot.word (key_of (site_at points.now n) spot.level) x }
     requires ready { IsReady pass.old.me.0 table.now.table_id.words spare.now }
     requires stock { HasStock pool pass.old.me.0.quota (length spare.now) 1 }
     ensures pass { (pass.new.table_id ≡ pass.old.table_id) × (pass.new.me.1 ≡ pass.old.me.1) }

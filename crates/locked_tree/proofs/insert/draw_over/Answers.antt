@@ -3,7 +3,7 @@ use Rattle.std.proofs.lemmas.List.{length-take-le}
 use Rattle.octant_code.specs.declared.limits.TheConstants.{LEVELS}
 use Rattle.octant_code.specs.Points.{site_at}
 use Rattle.tree_passes.specs.Making.{cells_between}
-use Rattle.locked_tree.proofs.Puts.{over_drawn, put_drawn, ready_drawn}
+use Rattle.locked_tree.proofs.Puts.{at_drawn, put_drawn, ready_drawn, there_drawn}
 use Rattle.locked_tree.proofs.insert.draw_over.Goals.{After-draw_cells-cells}
 use Rattle.locked_tree.proofs.insert.draw_over.Goals as goal
 
@@ -18,11 +18,14 @@ count c =
 drawn : (c : After-draw_cells-cells) → length (take c.cells_to_part-count.result c.draw_cells-cells.result) ≡ c.cells_to_part-count.result
 drawn c = length-take-le _ _ (omega (arith, c.draw_cells-cells.ensures.long, c.cells_to_part-count.ensures.few))
 
-pub put_over-requires-clause-over : goal.put_over-requires-clause-over
-put_over-requires-clause-over c = over_drawn _ _ _ _ _ _ _ _ c.draw_cells-cells.ensures.drawn c.requires.over
+pub put_over-requires-clause-at : goal.put_over-requires-clause-at
+put_over-requires-clause-at c = at_drawn _ _ _ _ _ _ _ c.draw_cells-cells.ensures.drawn c.requires.at
+
+pub put_over-requires-clause-there : goal.put_over-requires-clause-there
+put_over-requires-clause-there c = there_drawn _ _ _ _ _ _ c.draw_cells-cells.ensures.drawn c.requires.there
 
 pub put_over-requires-clause-ready : goal.put_over-requires-clause-ready
-put_over-requires-clause-ready c = ready_drawn _ _ _ _ c.requires.over.at.long c.draw_cells-cells.ensures.drawn
+put_over-requires-clause-ready c = ready_drawn _ _ _ _ c.requires.at.long c.draw_cells-cells.ensures.drawn
 
 pub put_over-requires-clause-room : goal.put_over-requires-clause-room
 put_over-requires-clause-room c =

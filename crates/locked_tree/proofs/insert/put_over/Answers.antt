@@ -14,10 +14,10 @@ use Rattle.locked_tree.proofs.insert.put_over.Goals as goal
 
 pub part_two-used-requires-clause-pair : goal.part_two-used-requires-clause-pair
 part_two-used-requires-clause-pair c =
-    let at = c.requires.over.at in
+    let at = c.requires.at in
     let key = c.key_at.ensures ∙ ap (λ s. key_of s c.args.spot.level) c.at.ensures.value in
     subst (λ (z : ℕ). ArePair c.args.points.now c.args.x c.args.n z c.args.spot.level) (sym key)
-    (meets _ c.args.points.now c.args.x c.args.n c.args.spot.level at.rule at.points at.todo at.n_in at.low c.requires.over.there.body)
+    (meets _ c.args.points.now c.args.x c.args.n c.args.spot.level at.rule at.points at.todo at.n_in at.low c.requires.there.body)
 
 -- the key of the cube
 key : (c : After-part_two-used) → c.key_at.result ≡ key_of (site_at c.args.points.now c.args.n) c.args.spot.level
@@ -32,9 +32,9 @@ store_locked-requires-clause-ready c =
     let v = c.part_two-used.new.pass.me.0 in
     let cells = take c.part_two-used.result c.args.spare.now in (
       key_of (site_at c.args.points.now c.args.n) c.args.spot.level,
-      place_still _ _ _ _ s r.over.at.known,
-      ready_over v c.args.points.now c.args.x c.args.n _ _ _ (get_or c.args.spare.now 0 0) cells (s.points ∙ r.over.at.points)
-          (some_held _ _ _ c.part_two-used.result (ready_on _ _ _ _ _ e.wrote r.ready)) (todo_still _ _ _ s r.over.at.todo)
+      place_still _ _ _ _ s r.at.known,
+      ready_over v c.args.points.now c.args.x c.args.n _ _ _ (get_or c.args.spare.now 0 0) cells (s.points ∙ r.at.points)
+          (some_held _ _ _ c.part_two-used.result (ready_on _ _ _ _ _ e.wrote r.ready)) (todo_still _ _ _ s r.at.todo)
           c.word_of_body.ensures c.word_of_cell-top.ensures
           (subst (λ (z : ℕ). StandsFor (site_at c.args.points.now) (at_of v.memory) (cell_word (get_or c.args.spare.now 0 0)) z (IsIn cells)
           (IsOneOf c.args.x c.args.n)) (key d) e.stands),
@@ -43,12 +43,12 @@ store_locked-requires-clause-ready c =
 pub store_locked-requires-clause-held : goal.store_locked-requires-clause-held
 store_locked-requires-clause-held c =
     let s = still_written _ _ _ c.part_two-used.ensures.wrote in
-    lock_held c.part_two-used.new.pass.me.0 _ _ c.requires.over.at.lock_is (s.locks ∙ c.requires.over.held)
+    lock_held c.part_two-used.new.pass.me.0 _ _ c.requires.at.lock_is (s.locks ∙ c.requires.held)
 
 pub store_locked-requires-clause-loaded : goal.store_locked-requires-clause-loaded
 store_locked-requires-clause-loaded c =
     subst (λ (z : List (ℕ × ℕ)). Has z (c.args.spot.word, c.word_of_body.result)) (sym (ap (λ (z : View). z.under) c.part_two-used.ensures.wrote.view))
-    (subst (λ (z : ℕ). Has c.args.pass.now.me.0.under (c.args.spot.word, z)) (sym c.word_of_body.ensures) c.requires.over.loaded)
+    (subst (λ (z : ℕ). Has c.args.pass.now.me.0.under (c.args.spot.word, z)) (sym c.word_of_body.ensures) c.requires.loaded)
 
 pub returns-clause-put : goal.returns-clause-put
 returns-clause-put c =

@@ -54,16 +54,21 @@ returns-in-Nothing-clause-turn c =
     (turn.Done 0) s
     (omega arith, put_alone _ _ c.args.n c.args.pool (inserted_put _ _ c.args.n [] _ (λ x. omega arith) c.store_locked.ensures.put))
 
-pub cover-requires-clause-over : goal.cover-requires-clause-over
-cover-requires-clause-over c =
-    let d = (goal.at.cover-requires-clause-over c).After-load_locked in
-    let l = looked d in
-    record {
-      at = at_still _ _ _ _ _ _ (still d) c.requires.at;
-      held = (still d).locks ∙ c.requires.held;
-      loaded = subst (λ (z : ℕ). Has c.load_locked.new.pass.me.0.under (c.args.spot.word, z)) c.in-Body.ensures (loaded_under _ _ _ _ _ l);
-      there = (found_under _ _ _ _ _ l (λ z. omega (arith, z, c.in-Body.ensures))).body c.in-Body.x c.in-Body.ensures;
-    }
+pub cover-requires-clause-at : goal.cover-requires-clause-at
+cover-requires-clause-at c = at_still _ _ _ _ _ _ (still (goal.at.cover-requires-clause-at c).After-load_locked) c.requires.at
+
+pub cover-requires-clause-held : goal.cover-requires-clause-held
+cover-requires-clause-held c = (still (goal.at.cover-requires-clause-held c).After-load_locked).locks ∙ c.requires.held
+
+pub cover-requires-clause-loaded : goal.cover-requires-clause-loaded
+cover-requires-clause-loaded c =
+    subst (λ (z : ℕ). Has c.load_locked.new.pass.me.0.under (c.args.spot.word, z)) c.in-Body.ensures
+    (loaded_under _ _ _ _ _ (looked (goal.at.cover-requires-clause-loaded c).After-load_locked))
+
+pub cover-requires-clause-there : goal.cover-requires-clause-there
+cover-requires-clause-there c =
+    (found_under _ _ _ _ _ (looked (goal.at.cover-requires-clause-there c).After-load_locked) (λ z. omega (arith, z, c.in-Body.ensures))).body
+    c.in-Body.x c.in-Body.ensures
 
 pub cover-requires-clause-ready : goal.cover-requires-clause-ready
 cover-requires-clause-ready c = ready_still _ _ _ _ (still (goal.at.cover-requires-clause-ready c).After-load_locked) c.requires.ready

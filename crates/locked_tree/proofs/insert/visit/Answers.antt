@@ -5,8 +5,7 @@ use Rattle.tree_passes.specs.Looks.{Looked}
 use Rattle.tree_passes.specs.Turns.{IsStill}
 use Rattle.tree_passes.proofs.Laws.{found_learnt, ready_still, still_counted, still_looked}
 use Rattle.locked_tree.specs.Seen.{HasStock}
-use Rattle.locked_tree.proofs.Puts.{at_locked, at_still, leads_kept, leads_still, leads_unlocked, lock_of, locked_parts, looked_parts, ready_locked}
-use Rattle.locked_tree.proofs.Puts.{unlocked_parts, word_at}
+use Rattle.locked_tree.proofs.Puts.{at_locked, at_still, leads_kept, leads_still, leads_unlocked, lock_of, locked_parts, looked_parts, ready_locked, unlocked_parts, word_at}
 use Rattle.locked_tree.proofs.insert.visit.Given.{Over}
 use Rattle.locked_tree.proofs.insert.visit.Goals.{After-load, After-take_lock}
 use Rattle.locked_tree.proofs.insert.visit.Goals as goal
