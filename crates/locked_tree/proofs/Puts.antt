@@ -17,15 +17,13 @@ use Rattle.tree_passes.specs.Locks.{IsLock, IsLockOf, OfChild, OfRoot, CellsLock
 use Rattle.tree_passes.specs.Looks.{Looked, Tells}
 use Rattle.tree_passes.specs.Making.{IsReady}
 use Rattle.tree_passes.specs.Passes.{after_publication, KnowsPlace}
-use Rattle.tree_passes.specs.Plays.{IsDrawn, LookedUnder}
+use Rattle.tree_passes.specs.Plays.{LookedUnder}
 use Rattle.tree_passes.specs.Turns.{Descends, IsFound, IsInserted, IsStill, IsThere}
 use Rattle.tree_passes.proofs.Laws.{descends_from, found_learnt, inserted_published, place_below, place_still, same-eq, same-ne, still_looked, times-append}
 use Rattle.locked_tree.specs.declared.insert.Spot.{Spot}
 use Rattle.locked_tree.specs.declared.insert.Turn.{Turn}
 use Rattle.locked_tree.specs.declared.insert.Turn.TheVariants as turn
-use Rattle.locked_tree.specs.declared.tree.Pool.{Pool}
-use Rattle.locked_tree.specs.declared.tree.Pool.TheVariants as pool
-use Rattle.locked_tree.specs.Inserting.{AreTaken, HasDrawn, IsAt, IsPutIn, LeadsTo, QuotaFalls}
+use Rattle.locked_tree.specs.Inserting.{IsAt, IsPutIn, LeadsTo}
 
 -- what a word tells is small
 pub word_small : (v : View) (key value : ℕ) → Tells v key value → ArePoints v.points → length v.memory ≤ word_count MOST_CELLS → value < 2 ^ 33
@@ -129,17 +127,6 @@ pub word_at : (v u : View) (words : ℕ) (sites : List Site) (n : ℕ) (s : Spot
 word_at v u words sites n s key value h t at =
     word_small u key value t (subst ArePoints (sym (h.points ∙ at.points)) at.rule) (let a = h.long in let b = at.long in let f = at.few in omega arith)
 
--- cells were drawn meanwhile
-pub at_drawn : (v w : View) (cells : List ℕ) (words : ℕ) (sites : List Site) (n : ℕ) (s : Spot) → HasDrawn v w cells → IsAt v words sites n s
-    → IsAt w words sites n s
-at_drawn v w cells words sites n s d at =
-    at_on v w words sites n s (ap (λ (z : View). z.points) d.view) d.long (ap (λ (z : View). z.todo) d.view)
-    (subst (λ (z : View). KnowsPlace z s.word (key_of (site_at sites n) s.level)) (sym d.view) at.known) at
-
-pub there_drawn : (v w : View) (cells : List ℕ) (word key x : ℕ) → HasDrawn v w cells → IsThere v word key x → IsThere w word key x
-there_drawn v w cells word key x d t = subst (λ (z : View). IsThere z word key x) (sym d.view)
-    (record { note = t.note; body = record { under = t.body.under; not_todo = t.body.not_todo; x_in = t.body.x_in } })
-
 -- a publication under the lock has put the body in
 pub inserted_put : (v w : View) (n : ℕ) (cells : List ℕ) (under : List (ℕ × ℕ)) → ((c : ℕ) → times c cells ≤ times c v.held)
     → w ≡ record (after_publication v cells (n ∷ [])) { under = under } → IsInserted v w n cells
@@ -157,14 +144,14 @@ inserted_put v w n cells under among e = subst (λ (z : View). IsInserted v z n 
       locks = i.locks;
     })
 
-put_in : (v w : View) (n : ℕ) (from : Pool) (cells : List ℕ) → AreTaken from cells → QuotaFalls from v.quota w.quota → IsInserted v w n cells
-    → IsPutIn v w n from cells
-put_in v w n from cells taken quota i = record {
+-- the body is put in, with these cells
+pub put_with : (v w : View) (n : ℕ) (cells : List ℕ) → length cells ≤ CELLS_OF_ONE → IsInserted v w n cells → IsPutIn v w n cells
+put_with v w n cells few i = record {
   points = i.points;
   long = i.long;
   held = i.held;
-  taken = taken;
-  quota = quota;
+  taken = few;
+  quota = i.quota;
   todo = i.todo;
   done = i.done;
   seen = i.seen;
@@ -172,114 +159,44 @@ put_in v w n from cells taken quota i = record {
   locks = i.locks;
 }
 
--- a body alone takes no cell
-pub put_alone : (v w : View) (n : ℕ) (from : Pool) → IsInserted v w n [] → IsPutIn v w n from []
-put_alone v w n pool.Shared i = put_in v w n pool.Shared [] refl (let q = i.quota in omega arith) i
-put_alone v w n pool.Regions i = put_in v w n pool.Regions [] (omega arith) i.quota i
-
--- cells of a region
-pub put_region : (v w : View) (n used : ℕ) (spare : List ℕ) → used ≤ CELLS_OF_ONE → used ≤ length spare → IsInserted v w n (take used spare)
-    → IsPutIn v w n pool.Regions (take used spare)
-put_region v w n used spare few enough i =
-    put_in v w n pool.Regions (take used spare) (let l = length-take-le used spare enough in omega arith) i.quota i
-
--- cells that were drawn are ready
-pub ready_drawn : (v w : View) (words : ℕ) (cells : List ℕ) → length v.memory ≡ words → HasDrawn v w cells → IsReady w words cells
-ready_drawn v w words cells long d = record {
-  long = d.long ∙ long;
-  held = λ c. let a = d.held c in omega arith;
-  once = d.once;
-  inside = λ c p. subst (λ (z : ℕ). lock_place c < z) long (d.inside c p);
-}
-
--- cells of the shared pool, all of which were used
-pub put_drawn : (v u w : View) (n used : ℕ) (cells : List ℕ) → HasDrawn v u cells → length cells ≤ CELLS_OF_ONE → length cells ≤ used
-    → IsInserted u w n (take used cells) → IsPutIn v w n pool.Shared []
-put_drawn v u w n used cells d few all i = record {
-  points = i.points ∙ ap (λ (z : View). z.points) d.view;
-  long = i.long ∙ d.long;
-  held = λ c. let a = i.held c in let b = d.held c in let e = ap (times c) (take_all used cells all) in omega arith;
-  taken = refl;
-  quota = let a = i.quota in let b = d.quota in omega arith;
-  todo = i.todo ∙ ap (λ (z : View). without n z.todo) d.view;
-  done = i.done ∙ ap (λ (z : View). n ∷ z.done) d.view;
-  seen = i.seen ∙ ap (λ (z : View). z.seen) d.view;
-  changes = i.changes ∙ ap (λ (z : View). z.changes + 1) d.view;
-  locks = i.locks ∙ ap (λ (z : View). z.locks) d.view;
-}
-
-pub drawn_none : (v : View) → HasDrawn v v []
-drawn_none v = record {
-  view = refl;
-  long = refl;
-  held = λ c. omega arith;
-  quota = omega arith;
-  fresh = λ c p. absurd (omega arith);
-  once = λ c. omega arith;
-  inside = λ c p. absurd (omega arith);
-}
-
--- and another can be drawn
-pub quota_left : (v w : View) (cells : List ℕ) (k : ℕ) → HasDrawn v w (take k cells) → k ≤ length cells → k < v.quota → 1 ≤ w.quota
-quota_left v w cells k d l some = let a = d.quota in let b = length-take-le k cells l in omega arith
-
--- one cell more is drawn
-pub drawn_more : (u v w : View) (cells : List ℕ) (k c : ℕ) → k < length cells → k < u.quota → HasDrawn u v (take k cells) → IsDrawn v c w
-    → HasDrawn u w (take (k + 1) (set cells k c))
-drawn_more u v w cells k c l more d i =
-    let some = quota_left u v cells k d (omega arith) more in
-    let all : (x : ℕ) → times x (take k cells ++ c ∷ []) ≡ times x (take k cells) + same c x =
-    λ x. let t = times-append x (take k cells) (c ∷ []) in omega arith in
-    let alone : (x : ℕ) → c ≡ x → (times x v.held ≡ 0) × (lock_place x < length v.memory) =
-    λ x e. subst (λ (z : ℕ). (times z v.held ≡ 0) × (lock_place z < length v.memory)) e (i.fresh, i.inside) in
-    subst (HasDrawn u w) (sym (take_more_set cells k c l))
-    (subst (λ (z : View). HasDrawn u z (take k cells ++ c ∷ [])) (sym i.view) (record {
-      view = ap (λ (z : View). record z { held = c ∷ v.held; quota = v.quota - 1; memory = i.memory }) d.view;
-      long = i.long ∙ d.long;
-      held = λ x. let a = d.held x in let t = all x in omega arith;
-      quota = let a = d.quota in let t = length-append (take k cells) (c ∷ []) in omega arith;
-      fresh = λ x p. dite (ℕ_discrete c x) (λ e. let a = d.held x in let f = (alone x e).0 in omega arith)
-          (λ n. d.fresh x (let t = all x in let z = same-ne c x n in omega arith));
-      once = λ x. dite (ℕ_discrete c x)
-          (λ e. let a = d.held x in let f = (alone x e).0 in let t = all x in let z = same-eq c x e in omega arith)
-          (λ n. let a = d.once x in let t = all x in let z = same-ne c x n in omega arith);
-      inside = λ x p. dite (ℕ_discrete c x) (λ e. let f = (alone x e).1 in let q = d.long in omega arith)
-          (λ n. d.inside x (let t = all x in let z = same-ne c x n in omega arith));
-    }))
+-- or with the first of the spare ones
+pub put_taken : (v w : View) (n used : ℕ) (spare : List ℕ) → used ≤ CELLS_OF_ONE → used ≤ length spare → IsInserted v w n (take used spare)
+    → IsPutIn v w n (take used spare)
+put_taken v w n used spare few enough i = put_with v w n (take used spare) (let l = length-take-le used spare enough in omega arith) i
 
 -- what a visit leads to, where the pass only loaded before it
-pub leads_still : (u v w : View) (n : ℕ) (from : Pool) (spare : List ℕ) (key : ℕ) (t : Turn) → IsStill u v → LeadsTo v w n from spare key t
-    → LeadsTo u w n from spare key t
-leads_still u v w n from spare key (turn.Done used) s p = (p.0, put_still p.1)
+pub leads_still : (u v w : View) (n : ℕ) (spare : List ℕ) (key : ℕ) (t : Turn) → IsStill u v → LeadsTo v w n spare key t
+    → LeadsTo u w n spare key t
+leads_still u v w n spare key (turn.Done used) s p = (p.0, put_still p.1)
   where
-    put_still : IsPutIn v w n from (take used spare) → IsPutIn u w n from (take used spare)
+    put_still : IsPutIn v w n (take used spare) → IsPutIn u w n (take used spare)
     put_still i = record {
       points = i.points ∙ s.points;
       long = i.long ∙ s.long;
       held = λ c. i.held c ∙ ap (times c) s.held;
       taken = i.taken;
-      quota = subst (λ (z : ℕ). QuotaFalls from z w.quota) s.quota i.quota;
+      quota = i.quota ∙ s.quota;
       todo = i.todo ∙ ap (without n) s.todo;
       done = i.done ∙ ap (λ (l : List ℕ). n ∷ l) s.done;
       seen = i.seen ∙ s.seen;
       changes = i.changes ∙ ap (λ (c : ℕ). c + 1) s.changes;
       locks = i.locks ∙ s.locks;
     }
-leads_still u v w n from spare key (turn.Below d) s p = descends_from u v w key d s p
+leads_still u v w n spare key (turn.Below d) s p = descends_from u v w key d s p
 
 -- the lock is held to the end of the visit
-pub leads_kept : (v w : View) (n : ℕ) (from : Pool) (spare : List ℕ) (key : ℕ) (t : Turn) → LeadsTo v w n from spare key t
+pub leads_kept : (v w : View) (n : ℕ) (spare : List ℕ) (key : ℕ) (t : Turn) → LeadsTo v w n spare key t
     → (w.locks ≡ v.locks) × (length w.memory ≡ length v.memory)
-leads_kept v w n from spare key (turn.Done used) p = (p.1.locks, p.1.long)
-leads_kept v w n from spare key (turn.Below d) p = (p.still.locks, p.still.long)
+leads_kept v w n spare key (turn.Done used) p = (p.1.locks, p.1.long)
+leads_kept v w n spare key (turn.Below d) p = (p.still.locks, p.still.long)
 
 -- and then it is given up
-pub leads_unlocked : (u l v w : View) (lock n : ℕ) (from : Pool) (spare : List ℕ) (key : ℕ) (t : Turn) → u.locks ≡ []
-    → l ≡ record u { locks = lock ∷ [] } → LeadsTo l v n from spare key t → w ≡ record v { locks = []; under = [] } → LeadsTo u w n from spare key t
-leads_unlocked u l v w lock n from spare key t free taken p e =
-    subst (λ (z : View). LeadsTo u z n from spare key t) (sym e) (unlocked t (subst (λ (z : View). LeadsTo z v n from spare key t) taken p))
+pub leads_unlocked : (u l v w : View) (lock n : ℕ) (spare : List ℕ) (key : ℕ) (t : Turn) → u.locks ≡ []
+    → l ≡ record u { locks = lock ∷ [] } → LeadsTo l v n spare key t → w ≡ record v { locks = []; under = [] } → LeadsTo u w n spare key t
+leads_unlocked u l v w lock n spare key t free taken p e =
+    subst (λ (z : View). LeadsTo u z n spare key t) (sym e) (unlocked t (subst (λ (z : View). LeadsTo z v n spare key t) taken p))
   where
-    unlocked : (t : Turn) → LeadsTo (record u { locks = lock ∷ [] }) v n from spare key t → LeadsTo u (record v { locks = []; under = [] }) n from spare key t
+    unlocked : (t : Turn) → LeadsTo (record u { locks = lock ∷ [] }) v n spare key t → LeadsTo u (record v { locks = []; under = [] }) n spare key t
     unlocked (turn.Done used) q = (
       q.0,
       record {

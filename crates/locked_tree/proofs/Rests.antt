@@ -1,5 +1,5 @@
 -- Passes between their calls.
-use Rattle.std.proofs.Common.{◌≡◌, ℕ, ◌+◌, ◌-◌, ◌≤◌, cond, Bool, eq-eqb, ne_eqb, List, [], ◌∷◌, ◌++◌, length, length-append, refl, sym, ap, subst, ◌∙◌, arith}
+use Rattle.std.proofs.Common.{◌≡◌, ℕ, ◌+◌, ◌-◌, ◌≤◌, cond, Bool, eq-eqb, ne_eqb, List, [], ◌∷◌, ◌++◌, append-nil, length, length-append, refl, sym, ap, subst, ◌∙◌, arith}
 use mathlib.Core.Logic.{dite}
 use native.Mathlib.Decide.{ℕ_discrete}
 use Rattle.atomic_table.specs.Seated.{TableId}
@@ -9,7 +9,7 @@ use Rattle.tree_passes.specs.Passes.{given_part, kept_part}
 use Rattle.tree_passes.proofs.Laws.{same-eq, same-ne, times-append, times-without, times-without_all}
 use Rattle.locked_tree.specs.declared.tree.Pool.{Pool}
 use Rattle.locked_tree.specs.declared.tree.Pool.TheVariants as pool
-use Rattle.locked_tree.specs.Seen.{HasStock, IsAtRest, IsCounted, PassState, state_of, stock_of}
+use Rattle.locked_tree.specs.Seen.{HasStock, IsAtRest, IsCounted, PassState, spare_of, state_of, stock_of}
 
 -- one number less
 pub length-without : (x : ℕ) (l : List ℕ) → 1 ≤ times x l → length (without x l) + 1 ≡ length l
@@ -34,10 +34,25 @@ length-without_all (x ∷ xs) l h =
     omega arith
 
 -- the stock for a part is there
-pub stock_there : (from : Pool) (quota cells bodies part : ℕ) → HasStock from quota cells bodies → part ≤ bodies
-    → ((stock_of from part).0 ≤ cells) × ((stock_of from part).1 ≤ quota)
-stock_there pool.Shared quota cells bodies part h less = (omega arith, omega arith)
-stock_there pool.Regions quota cells bodies part h less = (omega arith, omega arith)
+pub stock_there : (from : Pool) (quota : ℕ) (cells stock : List ℕ) (bodies part : ℕ) → HasStock from quota (length (spare_of from cells stock)) bodies
+    → part ≤ bodies → ((stock_of from part).0 ≤ length cells) × ((stock_of from part).1 ≤ quota)
+stock_there pool.Shared quota cells stock bodies part h less = (omega arith, omega arith)
+stock_there pool.Regions quota cells stock bodies part h less = (omega arith, omega arith)
+
+no_cell : (l : List ℕ) → length l ≡ 0 → [] ≡ l
+no_cell [] e = refl
+no_cell (x ∷ xs) e = absurd (omega arith)
+
+-- where a part's cells go from the region, the drawn ones stay
+pub spare_parts : (from : Pool) (cells kept given stock : List ℕ) (part : ℕ) → cells ≡ kept ++ given → length given ≡ (stock_of from part).0
+    → spare_of from cells stock ≡ spare_of from kept stock ++ given
+spare_parts pool.Shared cells kept given stock part is count = sym (append-nil stock) ∙ ap (λ (z : List ℕ). stock ++ z) (no_cell given count)
+spare_parts pool.Regions cells kept given stock part is count = is
+
+-- and the part begins with its cells alone
+pub spare_given : (from : Pool) (given : List ℕ) (part : ℕ) → length given ≡ (stock_of from part).0 → given ≡ spare_of from given []
+spare_given pool.Shared given part count = sym (no_cell given count)
+spare_given pool.Regions given part count = refl
 
 -- what is left is the stock for the rest
 stock_left : (from : Pool) (quota cells kept bodies left part : ℕ) → HasStock from quota cells bodies → kept + (stock_of from part).0 ≡ cells

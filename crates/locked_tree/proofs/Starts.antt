@@ -11,13 +11,14 @@ use Rattle.tree_rule.specs.Words.{HasBody, HasCell, IsReached, at_of, body_word,
 use Rattle.tree_rule.specs.Sound.{BodiesUnder, IsSound}
 use Rattle.octree.specs.Stored.{AreOctreeWords, IsBlankFrom, IsCanonical, IsStored, Stored, word_count}
 use Rattle.tree_passes.specs.Counting.{numbers_from}
+use Rattle.tree_passes.specs.Making.{IsReady}
 use Rattle.tree_passes.specs.Opening.{fresh_view}
 use Rattle.tree_passes.specs.Ends.{CanOpen, CanPool}
 use Rattle.tree_passes.proofs.Laws.{once_times, times_in}
 use Rattle.locked_tree.specs.declared.tree.Pool.{Pool}
 use Rattle.locked_tree.specs.declared.tree.Pool.TheVariants as pool
 use Rattle.locked_tree.specs.Ends.{AreStartWords}
-use Rattle.locked_tree.specs.Seen.{HasRoom, HasStock, IsAtRest}
+use Rattle.locked_tree.specs.Seen.{HasRoom, HasStock, IsAtRest, spare_of}
 
 numbers_next : (from n : ℕ) → numbers_from from n ++ (from + n) ∷ [] ≡ numbers_from from (suc n)
 numbers_next from zero = let e : from + 0 ≡ from = omega arith in ap (λ (z : ℕ). z ∷ []) e
@@ -146,7 +147,7 @@ room_few pool.Regions held used bodies h = omega arith
 -- the first pass is at rest, and has counted nothing
 pub rest_begun : (sites : List Site) (words todo held : List ℕ) (from : Pool) (quota : ℕ) → CanOpen sites words todo held
     → HasStock from quota (length held) (length todo)
-    → IsAtRest (fresh_view (record { sites = sites; words = words; todo = todo }) held quota todo) (length words) from held
+    → IsAtRest (fresh_view (record { sites = sites; words = words; todo = todo }) held quota todo) (length words) from (spare_of from held [])
 rest_begun sites words todo held from quota h stock = record {
   some = let l = h.octree.long in omega arith;
   few = let l = h.octree.long in let f = h.octree.few in omega arith;
@@ -154,6 +155,19 @@ rest_begun sites words todo held from quota h stock = record {
   no_lock = refl;
   none_under = refl;
   todo_in = λ x p. h.todo_in x (times_in x todo p);
-  ready = record { long = refl; held = λ c. omega arith; once = λ c. once_times held h.held_once c; inside = λ c p. h.held_inside c (times_in c held p) };
-  stocked = stock;
+  ready = ready from;
+  stocked = stocked from stock;
 }
+  where
+    ready : (from : Pool) → IsReady (fresh_view (record { sites = sites; words = words; todo = todo }) held quota todo) (length words) (spare_of from held [])
+    ready pool.Shared = record { long = refl; held = λ c. omega arith; once = λ c. omega arith; inside = λ c p. absurd (omega arith) }
+    ready pool.Regions = record {
+      long = refl;
+      held = λ c. omega arith;
+      once = λ c. once_times held h.held_once c;
+      inside = λ c p. h.held_inside c (times_in c held p);
+    }
+
+    stocked : (from : Pool) → HasStock from quota (length held) (length todo) → HasStock from quota (length (spare_of from held [])) (length todo)
+    stocked pool.Shared s = s
+    stocked pool.Regions s = s

@@ -1,5 +1,5 @@
 -- What an insertion under locks goes by, and what it leaves.
-use Rattle.std.specs.Prelude.{ℕ, ◌≡◌, ◌+◌, ◌<◌, ◌≤◌, List, [], ◌∷◌, length, take}
+use Rattle.std.specs.Prelude.{ℕ, ◌≡◌, ◌+◌, ◌<◌, ◌≤◌, List, ◌∷◌, length, take}
 use Rattle.octant_code.specs.declared.limits.TheConstants.{LEVELS}
 use Rattle.octant_code.specs.Space.{Site, key_of}
 use Rattle.octant_code.specs.Points.{site_at, ArePoints}
@@ -14,26 +14,14 @@ use Rattle.tree_passes.specs.Turns.{Descends}
 use Rattle.locked_tree.specs.declared.insert.Spot.{Spot}
 use Rattle.locked_tree.specs.declared.insert.Turn.{Turn}
 use Rattle.locked_tree.specs.declared.insert.Turn.TheVariants as turn
-use Rattle.locked_tree.specs.declared.tree.Pool.{Pool}
-use Rattle.locked_tree.specs.declared.tree.Pool.TheVariants as pool
 
--- the quota falls by 21 at most with the shared pool, and not at all with regions
-abbrev pub QuotaFalls : Pool → ℕ → ℕ → Type 0
-QuotaFalls pool.Shared before after = before ≤ after + CELLS_OF_ONE
-QuotaFalls pool.Regions before after = after ≡ before
-
--- the cells that were taken: with regions at most 21, and with the shared pool none of a region
-abbrev pub AreTaken : Pool → List ℕ → Type 0
-AreTaken pool.Shared cells = cells ≡ []
-AreTaken pool.Regions cells = length cells ≤ CELLS_OF_ONE
-
--- Body n has gone from todo to done by one publication, with cells of these or of the shared pool. The other lists and the locks stay.
-pub record IsPutIn (v w : View) (n : ℕ) (from : Pool) (cells : List ℕ) : Type 0 where
+-- Body n has gone from todo to done by one publication, with these cells. The other lists, the quota and the locks stay.
+pub record IsPutIn (v w : View) (n : ℕ) (cells : List ℕ) : Type 0 where
   pub points : w.points ≡ v.points
   pub long : length w.memory ≡ length v.memory
   pub held : (c : ℕ) → times c w.held + times c cells ≡ times c v.held
-  pub taken : AreTaken from cells
-  pub quota : QuotaFalls from v.quota w.quota
+  pub taken : length cells ≤ CELLS_OF_ONE
+  pub quota : w.quota ≡ v.quota
   pub todo : w.todo ≡ without n v.todo
   pub done : w.done ≡ n ∷ v.done
   pub seen : w.seen ≡ v.seen
@@ -56,16 +44,20 @@ pub record IsAt (v : View) (words : ℕ) (sites : List Site) (n : ℕ) (s : Spot
   pub lock_is : IsLockOf s.word s.lock
 
 -- What a visit of a word leads to: body n is put in, with so many of the cells, or the way goes on below a cell that the word names.
-abbrev pub LeadsTo : View → View → ℕ → Pool → List ℕ → ℕ → Turn → Type 0
-LeadsTo v w n from spare key (turn.Done used) = (used ≤ length spare) × IsPutIn v w n from (take used spare)
-LeadsTo v w n from spare key (turn.Below d) = Descends v w key d
+abbrev pub LeadsTo : View → View → ℕ → List ℕ → ℕ → Turn → Type 0
+LeadsTo v w n spare key (turn.Done used) = (used ≤ length spare) × IsPutIn v w n (take used spare)
+LeadsTo v w n spare key (turn.Below d) = Descends v w key d
 
--- The pass drew these cells from the shared pool: each is new to it, and nothing else of it changed but words of theirs.
-pub record HasDrawn (v w : View) (cells : List ℕ) : Type 0 where
+-- The pass drew cells from the shared pool, by which its stock grew, and nothing else of it changed but words of theirs.
+pub record HasDrawn (v w : View) (before after : List ℕ) : Type 0 where
   pub view : w ≡ record v { held = w.held; quota = w.quota; memory = w.memory }
-  pub long : length w.memory ≡ length v.memory
-  pub held : (c : ℕ) → times c w.held ≡ times c cells + times c v.held
-  pub quota : w.quota + length cells ≡ v.quota
-  pub fresh : (c : ℕ) → 1 ≤ times c cells → times c v.held ≡ 0
-  pub once : (c : ℕ) → times c cells ≤ 1
-  pub inside : (c : ℕ) → 1 ≤ times c cells → lock_place c < length v.memory
+  pub held : (c : ℕ) → times c w.held + times c before ≡ times c v.held + times c after
+  pub quota : w.quota + length after ≡ v.quota + length before
+
+-- what an insertion leaves of a pass: body n has gone from todo to done by one publication
+pub record HasPut (v w : View) (n : ℕ) : Type 0 where
+  pub points : w.points ≡ v.points
+  pub todo : w.todo ≡ without n v.todo
+  pub done : w.done ≡ n ∷ v.done
+  pub seen : w.seen ≡ v.seen
+  pub changes : w.changes ≡ v.changes + 1

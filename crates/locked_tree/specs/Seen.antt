@@ -68,16 +68,21 @@ abbrev pub HasRoom : Pool → ℕ → ℕ → ℕ → Type 0
 HasRoom pool.Shared held used bodies = held + CELLS_OF_ONE * bodies ≤ MOST_CELLS
 HasRoom pool.Regions held used bodies = used + CELLS_OF_ONE * bodies ≤ MOST_CELLS
 
+-- the cells that an insertion uses: those of a region, or the stock that was drawn from the shared pool
+abbrev pub spare_of : Pool → List ℕ → List ℕ → List ℕ
+spare_of pool.Shared region stock = stock
+spare_of pool.Regions region stock = region
+
 -- What a pass keeps between its calls: it holds no lock, and has 21 cells for each body that it is to put in.
-pub record IsAtRest (v : View) (words : ℕ) (from : Pool) (region : List ℕ) : Type 0 where
+pub record IsAtRest (v : View) (words : ℕ) (from : Pool) (spare : List ℕ) : Type 0 where
   pub some : POOL_PLACE < words
   pub few : words ≤ word_count MOST_CELLS
   pub rule : ArePoints v.points
   pub no_lock : v.locks ≡ []
   pub none_under : v.under ≡ []
   pub todo_in : (x : ℕ) → 1 ≤ times x v.todo → x < length v.points
-  pub ready : IsReady v words region
-  pub stocked : HasStock from v.quota (length region) (length v.todo)
+  pub ready : IsReady v words spare
+  pub stocked : HasStock from v.quota (length spare) (length v.todo)
 
 -- the counts of a yard
 pub record YardCounts : Type 0 where

@@ -12,29 +12,21 @@ ghost use Rattle.tree_passes.specs.Making.{cells_between, IsReady};
 ghost use Rattle.tree_passes.specs.Turns.{IsInserted, IsThere};
 ghost use Rattle.tree_rule.specs.Words.{body_word};
 ghost use Rattle.tree_rule.specs.declared.words.TheConstants.{CELLS_OF_ONE, MOST_CELLS, POOL_PLACE};
-ghost use Rattle.locked_tree.specs.declared.tree.Pool.TheVariants as pool_is;
-ghost use Rattle.locked_tree.specs.Seen.{HasStock};
-ghost use Rattle.locked_tree.specs.Inserting.{HasDrawn, IsAt, IsPutIn, LeadsTo};
+ghost use Rattle.locked_tree.specs.Inserting.{IsAt, IsPutIn, LeadsTo};
 
-use crate::tree::Pool;
 use octant_code::{LEVELS, Point, Points, key_at, octant};
 use std::hint;
 use std::sync::Wait;
 use std::thread::yield_now;
 use tree_passes::{
-    Cube, Pass, Words, cells_to_part, draw_cell, load, load_locked, part_two, store_locked,
-    try_lock, unlock,
+    Cube, Pass, Words, load, load_locked, part_two, store_locked, try_lock, unlock,
 };
 use tree_rule::{
-    CELLS_OF_ONE, Named, ROOT_LOCK, named_by, place_of_child, place_of_lock, word_of_body,
-    word_of_cell,
+    Named, ROOT_LOCK, named_by, place_of_child, place_of_lock, word_of_body, word_of_cell,
 };
 
 // How often a lock is tried before other threads are let run.
 const TRIES: u32 = 64;
-
-// The most cells that are drawn at once.
-const MOST_DRAWN: usize = CELLS_OF_ONE as usize;
 
 /// A published word on the way down: its place, that of its lock, and the level of its cube.
 #[derive(Clone, Copy, Drop)]
@@ -74,24 +66,6 @@ fn take_lock<R: Wait>(rt: &R, table: &Words, pass: &mut Pass, lock: usize)
         yield_now();
     }
     unreachable!()
-}
-
-/// Draws so many cells from the shared pool.
-fn draw_cells(table: &Words, pass: &mut Pass, count: usize) -> [u32; MOST_DRAWN]
-    requires locks { table.now.key.writing ≡ UnderLocks }
-    requires place { pass.old.table_id ≡ table.now.table_id }
-    requires pool { POOL_PLACE < table.now.table_id.words }
-    requires few { count ≤ CELLS_OF_ONE }
-    requires quota { count ≤ pass.old.me.0.quota }
-    ensures pass { (pass.new.table_id ≡ pass.old.table_id) × (pass.new.me.1 ≡ pass.old.me.1) }
-    ensures long { length result ≡ CELLS_OF_ONE }
-    ensures drawn { HasDrawn pass.old.me.0 pass.new.me.0 (take count result) }
-{
-    let mut cells = [0u32; MOST_DRAWN];
-    for k in 0..count {
-        cells[k] = draw_cell(table, pass);
-    }
-    cells
 }
 
 /// Puts the body over body `x`, which the word names, with as many of these cells as part the two.
@@ -135,61 +109,10 @@ fn put_over(
     used
 }
 
-/// Puts the body over body `x` with cells of the shared pool, as many as part the two.
-fn draw_over(table: &Words, pass: &mut Pass, points: &Points, x: u32, n: u32, spot: Spot)
-    requires locks { table.now.key.writing ≡ UnderLocks }
-    requires place { pass.old.table_id ≡ table.now.table_id }
-    requires at { IsAt pass.old.me.0 table.now.table_id.words points.now n spot }
-    requires held { pass.old.me.0.locks ≡ spot.lock ∷ [] }
-    requires loaded { Has pass.old.me.0.under (spot.word, body_word x) }
-    requires there { IsThere pass.old.me.0 spot.word (key_of (site_at points.now n) spot.level) x }
-    requires quota { CELLS_OF_ONE ≤ pass.old.me.0.quota }
-    ensures pass { (pass.new.table_id ≡ pass.old.table_id) × (pass.new.me.1 ≡ pass.old.me.1) }
-    ensures put { IsPutIn pass.old.me.0 pass.new.me.0 n pool_is.Shared [] }
-{
-    let count = cells_to_part(points.at(x), points.at(n), spot.level);
-    let cells = draw_cells(table, pass, count);
-    put_over(table, pass, &cells[..count], points, x, n, spot);
-}
-
-/// Puts the body over body `x` with cells of where the pass has them. Returns how many of the spare
-/// cells it took.
-fn cover(
-    table: &Words,
-    pass: &mut Pass,
-    pool: Pool,
-    spare: &[u32],
-    points: &Points,
-    x: u32,
-    n: u32,
-    spot: Spot,
-) -> usize
-    requires locks { table.now.key.writing ≡ UnderLocks }
-    requires place { pass.old.table_id ≡ table.now.table_id }
-    requires at { IsAt pass.old.me.0 table.now.table_id.words points.now n spot }
-    requires held { pass.old.me.0.locks ≡ spot.lock ∷ [] }
-    requires loaded { Has pass.old.me.0.under (spot.word, body_word x) }
-    requires there { IsThere pass.old.me.0 spot.word (key_of (site_at points.now n) spot.level) x }
-    requires ready { IsReady pass.old.me.0 table.now.table_id.words spare.now }
-    requires stock { HasStock pool pass.old.me.0.quota (length spare.now) 1 }
-    ensures pass { (pass.new.table_id ≡ pass.old.table_id) × (pass.new.me.1 ≡ pass.old.me.1) }
-    ensures few { result ≤ length spare.now }
-    ensures put { IsPutIn pass.old.me.0 pass.new.me.0 n pool (take result spare.now) }
-{
-    match pool {
-        Pool::Shared => {
-            draw_over(table, pass, points, x, n, spot);
-            0
-        }
-        Pool::Regions => put_over(table, pass, spare, points, x, n, spot),
-    }
-}
-
 /// Looks at the word again under its lock, and puts the body there unless it names a cell.
 fn settle(
     table: &Words,
     pass: &mut Pass,
-    pool: Pool,
     spare: &[u32],
     points: &Points,
     n: u32,
@@ -200,16 +123,16 @@ fn settle(
     requires at { IsAt pass.old.me.0 table.now.table_id.words points.now n spot }
     requires held { pass.old.me.0.locks ≡ spot.lock ∷ [] }
     requires ready { IsReady pass.old.me.0 table.now.table_id.words spare.now }
-    requires stock { HasStock pool pass.old.me.0.quota (length spare.now) 1 }
+    requires stock { CELLS_OF_ONE ≤ length spare.now }
     ensures pass { (pass.new.table_id ≡ pass.old.table_id) × (pass.new.me.1 ≡ pass.old.me.1) }
-    ensures turn { LeadsTo pass.old.me.0 pass.new.me.0 n pool spare.now (key_of (site_at points.now n) spot.level) result }
+    ensures turn { LeadsTo pass.old.me.0 pass.new.me.0 n spare.now (key_of (site_at points.now n) spot.level) result }
 {
     match named_by(load_locked(table, pass, spot.word)) {
         Named::Nothing => {
             store_locked(table, pass, spot.word, 0, word_of_body(n), &[], &[n]);
             Turn::Done(0)
         }
-        Named::Body(x) => Turn::Done(cover(table, pass, pool, spare, points, x, n, spot)),
+        Named::Body(x) => Turn::Done(put_over(table, pass, spare, points, x, n, spot)),
         Named::Cell(cell) => Turn::Below(cell),
     }
 }
@@ -219,7 +142,6 @@ fn visit<R: Wait>(
     rt: &R,
     table: &Words,
     pass: &mut Pass,
-    pool: Pool,
     spare: &[u32],
     points: &Points,
     n: u32,
@@ -230,27 +152,25 @@ fn visit<R: Wait>(
     requires at { IsAt pass.old.me.0 table.now.table_id.words points.now n spot }
     requires no_lock { (pass.old.me.0.locks ≡ []) × (pass.old.me.0.under ≡ []) }
     requires ready { IsReady pass.old.me.0 table.now.table_id.words spare.now }
-    requires stock { HasStock pool pass.old.me.0.quota (length spare.now) 1 }
+    requires stock { CELLS_OF_ONE ≤ length spare.now }
     ensures pass { (pass.new.table_id ≡ pass.old.table_id) × (pass.new.me.1 ≡ pass.old.me.1) }
     ensures no_lock { (pass.new.me.0.locks ≡ []) × (pass.new.me.0.under ≡ []) }
-    ensures turn { LeadsTo pass.old.me.0 pass.new.me.0 n pool spare.now (key_of (site_at points.now n) spot.level) result }
+    ensures turn { LeadsTo pass.old.me.0 pass.new.me.0 n spare.now (key_of (site_at points.now n) spot.level) result }
 {
     if let Named::Cell(cell) = named_by(load(table, pass, spot.word)) {
         return Turn::Below(cell);
     }
     take_lock(rt, table, pass, spot.lock);
-    let turn = settle(table, pass, pool, spare, points, n, spot);
+    let turn = settle(table, pass, spare, points, n, spot);
     unlock(table, pass, spot.lock);
     turn
 }
 
-/// Inserts a body of the todo list. Returns how many of the spare cells it took, from the front; with
-/// the shared pool none.
+/// Inserts a body of the todo list. Returns how many of the spare cells it took, from the front.
 pub fn insert<R: Wait>(
     rt: &R,
     table: &Words,
     pass: &mut Pass,
-    pool: Pool,
     spare: &[u32],
     points: &Points,
     n: u32,
@@ -264,11 +184,11 @@ pub fn insert<R: Wait>(
     requires n_in { n < length points.now }
     requires todo { 1 ≤ times n pass.old.me.0.todo }
     requires ready { IsReady pass.old.me.0 table.now.table_id.words spare.now }
-    requires stock { HasStock pool pass.old.me.0.quota (length spare.now) 1 }
+    requires stock { CELLS_OF_ONE ≤ length spare.now }
     ensures pass { (pass.new.table_id ≡ pass.old.table_id) × (pass.new.me.1 ≡ pass.old.me.1) }
     ensures no_lock { (pass.new.me.0.locks ≡ []) × (pass.new.me.0.under ≡ []) }
     ensures few { result ≤ length spare.now }
-    ensures done { IsPutIn pass.old.me.0 pass.new.me.0 n pool (take result spare.now) }
+    ensures done { IsPutIn pass.old.me.0 pass.new.me.0 n (take result spare.now) }
 {
     let _rule = points.len();
     let p = points.at(n);
@@ -278,7 +198,7 @@ pub fn insert<R: Wait>(
         level: 0,
     };
     for level in 0..LEVELS + 1 {
-        match visit(rt, table, pass, pool, spare, points, n, spot) {
+        match visit(rt, table, pass, spare, points, n, spot) {
             Turn::Done(used) => return used,
             Turn::Below(cell) => {
                 spot = Spot {

@@ -4,6 +4,8 @@
 mod copy;
 mod find;
 mod insert;
+mod source;
+mod stock;
 #[cfg(test)]
 mod tests;
 mod tree;

@@ -10,7 +10,8 @@ ghost use Rattle.locked_tree.specs.Finding.{NamesNoneAt};
 ghost use Rattle.locked_tree.specs.Seen.{stock_of, IsOf, PassState, SharedTree};
 
 use crate::find::find;
-use crate::insert::insert;
+use crate::source::insert_from;
+use crate::stock::Stock;
 use cell_pool::Region;
 use octant_code::{OutOfMemory, Point, Points};
 use std::alloc::Global;
@@ -62,6 +63,8 @@ pub struct LockedPass {
     pub(crate) seat: Pass,
     pub(crate) pool: Pool,
     pub(crate) region: Region,
+    // with the shared pool, the cells that were drawn and not used yet
+    pub(crate) stock: Stock,
     // how many bodies it put in, and how often it published, up to 2^64 - 1
     pub(crate) published: u64,
     pub(crate) changes: u64,
@@ -69,13 +72,13 @@ pub struct LockedPass {
 
 impl Model for LockedPass {
     ghost use Rattle.std.specs.Prelude.{◌≡◌, []};
-    ghost use Rattle.locked_tree.specs.Seen.{IsAtRest, IsCounted, PassState, state_of};
+    ghost use Rattle.locked_tree.specs.Seen.{IsAtRest, IsCounted, PassState, spare_of, state_of};
 
     ghost Value = { PassState };
 
     ghost view = { λ p. state_of p.seat.table_id p.seat.me.0 };
 
-    ghost invariant = { λ p. (p.seat.me.1 ≡ []) × IsAtRest p.seat.me.0 p.seat.table_id.words p.pool p.region.cells × IsCounted p.seat.me.0 p.published p.changes };
+    ghost invariant = { λ p. (p.seat.me.1 ≡ []) × IsAtRest p.seat.me.0 p.seat.table_id.words p.pool (spare_of p.pool p.region.cells p.stock) × IsCounted p.seat.me.0 p.published p.changes };
 }
 
 /// The stock for so many bodies: how many cells of a region, and how large a quota.
@@ -97,16 +100,16 @@ impl LockedTree {
         requires todo { 1 ≤ times n pass.old.todo }
         ensures { pass.new ≡ record pass.old { todo = without n pass.old.todo; done = n ∷ pass.old.done; changes = pass.old.changes + 1; loads = pass.new.loads; last = pass.new.last } }
     {
-        let used = insert(
+        insert_from(
             rt,
             &self.table.shared,
             &mut pass.seat,
             pass.pool,
-            pass.region.rest(),
+            &mut pass.region,
+            &mut pass.stock,
             &self.points,
             n,
         );
-        pass.region.spend(used);
         pass.published = pass.published.saturating_add(1);
         pass.changes = pass.changes.saturating_add(1);
     }
@@ -156,6 +159,7 @@ impl LockedTree {
             seat,
             pool: pass.pool,
             region,
+            stock: Stock::empty(),
             published: 0,
             changes: 0,
         })

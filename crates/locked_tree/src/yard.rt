@@ -11,6 +11,7 @@ ghost use Rattle.locked_tree.specs.Ends.{AreStartWords, IsTreeAtEnd};
 ghost use Rattle.locked_tree.specs.Seen.{entrusted, risen, HasRoom, HasStock, IsOf};
 
 use crate::copy::close_into;
+use crate::stock::Stock;
 use crate::tree::{LockedPass, LockedTree, Pool, stock_for};
 use cell_pool::Region;
 use octant_code::{OutOfMemory, Points};
@@ -189,6 +190,7 @@ impl LockedYard {
             seat,
             pool,
             region: Region::of(cells),
+            stock: Stock::empty(),
             published: 0,
             changes: 0,
         };

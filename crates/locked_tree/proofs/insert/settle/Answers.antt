@@ -1,13 +1,13 @@
-use Rattle.std.proofs.Common.{arith, ◌∙◌, ℕ, [], length, subst, sym}
+use Rattle.std.proofs.Common.{arith, ◌-◌, ◌≤◌, ◌∙◌, ℕ, [], length, subst, sym}
+use Rattle.octant_code.specs.declared.limits.TheConstants.{LEVELS}
 use Rattle.octant_code.specs.Space.{key_of}
 use Rattle.octant_code.specs.Points.{site_at}
 use Rattle.tree_passes.specs.Counting.{Has}
 use Rattle.tree_passes.specs.Plays.{LookedUnder}
 use Rattle.tree_passes.specs.Turns.{IsStill}
-use Rattle.tree_passes.proofs.Laws.{place_still, ready_alone, ready_still, still_counted, todo_still}
+use Rattle.tree_passes.proofs.Laws.{few_between, place_still, ready_alone, ready_still, still_counted, todo_still}
 use Rattle.locked_tree.specs.declared.insert.Turn.TheVariants as turn
-use Rattle.locked_tree.specs.Seen.{HasStock}
-use Rattle.locked_tree.proofs.Puts.{at_still, found_under, inserted_put, leads_still, loaded_under, lock_held, put_alone, still_under, word_at}
+use Rattle.locked_tree.proofs.Puts.{at_still, found_under, inserted_put, leads_still, loaded_under, lock_held, put_taken, put_with, still_under, word_at}
 use Rattle.locked_tree.proofs.insert.settle.Goals.{After-load_locked}
 use Rattle.locked_tree.proofs.insert.settle.Goals as goal
 
@@ -50,39 +50,41 @@ store_locked-requires-clause-loaded c =
 pub returns-in-Nothing-clause-turn : goal.returns-in-Nothing-clause-turn
 returns-in-Nothing-clause-turn c =
     let s = still (goal.at.returns-in-Nothing-clause-turn c).After-load_locked in
-    leads_still _ c.load_locked.new.pass.me.0 _ c.args.n c.args.pool c.args.spare.now (key_of (site_at c.args.points.now c.args.n) c.args.spot.level)
+    leads_still _ c.load_locked.new.pass.me.0 _ c.args.n c.args.spare.now (key_of (site_at c.args.points.now c.args.n) c.args.spot.level)
     (turn.Done 0) s
-    (omega arith, put_alone _ _ c.args.n c.args.pool (inserted_put _ _ c.args.n [] _ (λ x. omega arith) c.store_locked.ensures.put))
+    (omega arith, put_with _ _ c.args.n [] (omega arith) (inserted_put _ _ c.args.n [] _ (λ x. omega arith) c.store_locked.ensures.put))
 
-pub cover-requires-clause-at : goal.cover-requires-clause-at
-cover-requires-clause-at c = at_still _ _ _ _ _ _ (still (goal.at.cover-requires-clause-at c).After-load_locked) c.requires.at
+pub put_over-requires-clause-at : goal.put_over-requires-clause-at
+put_over-requires-clause-at c = at_still _ _ _ _ _ _ (still (goal.at.put_over-requires-clause-at c).After-load_locked) c.requires.at
 
-pub cover-requires-clause-held : goal.cover-requires-clause-held
-cover-requires-clause-held c = (still (goal.at.cover-requires-clause-held c).After-load_locked).locks ∙ c.requires.held
+pub put_over-requires-clause-held : goal.put_over-requires-clause-held
+put_over-requires-clause-held c = (still (goal.at.put_over-requires-clause-held c).After-load_locked).locks ∙ c.requires.held
 
-pub cover-requires-clause-loaded : goal.cover-requires-clause-loaded
-cover-requires-clause-loaded c =
+pub put_over-requires-clause-loaded : goal.put_over-requires-clause-loaded
+put_over-requires-clause-loaded c =
     subst (λ (z : ℕ). Has c.load_locked.new.pass.me.0.under (c.args.spot.word, z)) c.in-Body.ensures
-    (loaded_under _ _ _ _ _ (looked (goal.at.cover-requires-clause-loaded c).After-load_locked))
+    (loaded_under _ _ _ _ _ (looked (goal.at.put_over-requires-clause-loaded c).After-load_locked))
 
-pub cover-requires-clause-there : goal.cover-requires-clause-there
-cover-requires-clause-there c =
-    (found_under _ _ _ _ _ (looked (goal.at.cover-requires-clause-there c).After-load_locked) (λ z. omega (arith, z, c.in-Body.ensures))).body
+pub put_over-requires-clause-there : goal.put_over-requires-clause-there
+put_over-requires-clause-there c =
+    (found_under _ _ _ _ _ (looked (goal.at.put_over-requires-clause-there c).After-load_locked) (λ z. omega (arith, z, c.in-Body.ensures))).body
     c.in-Body.x c.in-Body.ensures
 
-pub cover-requires-clause-ready : goal.cover-requires-clause-ready
-cover-requires-clause-ready c = ready_still _ _ _ _ (still (goal.at.cover-requires-clause-ready c).After-load_locked) c.requires.ready
+pub put_over-requires-clause-ready : goal.put_over-requires-clause-ready
+put_over-requires-clause-ready c = ready_still _ _ _ _ (still (goal.at.put_over-requires-clause-ready c).After-load_locked) c.requires.ready
 
-pub cover-requires-clause-stock : goal.cover-requires-clause-stock
-cover-requires-clause-stock c =
-    subst (λ (z : ℕ). HasStock c.args.pool z (length c.args.spare.now) 1) (sym (still (goal.at.cover-requires-clause-stock c).After-load_locked).quota)
-    c.requires.stock
+pub put_over-requires-clause-room : goal.put_over-requires-clause-room
+put_over-requires-clause-room c =
+    let few = few_between (site_at c.args.points.now c.in-Body.x) (site_at c.args.points.now c.args.n) c.args.spot.level (LEVELS - c.args.spot.level) in
+    omega (arith, c.requires.stock)
 
 pub returns-in-Body-clause-turn : goal.returns-in-Body-clause-turn
 returns-in-Body-clause-turn c =
     let s = still (goal.at.returns-in-Body-clause-turn c).After-load_locked in
-    leads_still _ c.load_locked.new.pass.me.0 _ c.args.n c.args.pool c.args.spare.now (key_of (site_at c.args.points.now c.args.n) c.args.spot.level)
-    (turn.Done c.cover.result) s (c.cover.ensures.few, c.cover.ensures.put)
+    let few = few_between (site_at c.args.points.now c.in-Body.x) (site_at c.args.points.now c.args.n) c.args.spot.level (LEVELS - c.args.spot.level) in
+    let enough : c.put_over.result ≤ length c.args.spare.now = omega (arith, few, c.put_over.ensures.count, c.requires.stock) in
+    leads_still _ c.load_locked.new.pass.me.0 _ c.args.n c.args.spare.now (key_of (site_at c.args.points.now c.args.n) c.args.spot.level)
+    (turn.Done c.put_over.result) s (enough, put_taken _ _ c.args.n c.put_over.result c.args.spare.now (omega (arith, few, c.put_over.ensures.count)) enough c.put_over.ensures.put)
 
 pub returns-in-Cell-clause-turn : goal.returns-in-Cell-clause-turn
 returns-in-Cell-clause-turn c =

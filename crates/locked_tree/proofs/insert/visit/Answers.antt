@@ -4,7 +4,6 @@ use Rattle.octant_code.specs.Points.{site_at}
 use Rattle.tree_passes.specs.Looks.{Looked}
 use Rattle.tree_passes.specs.Turns.{IsStill}
 use Rattle.tree_passes.proofs.Laws.{found_learnt, ready_still, still_counted, still_looked}
-use Rattle.locked_tree.specs.Seen.{HasStock}
 use Rattle.locked_tree.proofs.Puts.{at_locked, at_still, leads_kept, leads_still, leads_unlocked, lock_of, locked_parts, looked_parts, ready_locked, unlocked_parts, word_at}
 use Rattle.locked_tree.proofs.insert.visit.Given.{Over}
 use Rattle.locked_tree.proofs.insert.visit.Goals.{After-load, After-take_lock}
@@ -67,18 +66,13 @@ settle-turn-requires-clause-ready g c =
     ready_locked _ _ _ _ _ c.take_lock.ensures.taken
     (ready_still _ _ _ _ (still g (goal.at.settle-turn-requires-clause-ready g c).After-load) c.requires.ready)
 
-pub settle-turn-requires-clause-stock : goal.settle-turn-requires-clause-stock
-settle-turn-requires-clause-stock g c =
-    let l = locked g (goal.at.settle-turn-requires-clause-stock g c).After-take_lock in
-    subst (λ (z : ℕ). HasStock c.args.pool z (length c.args.spare.now) 1) (sym l.1) c.requires.stock
-
 pub unlock-requires-clause-long : goal.unlock-requires-clause-long
 unlock-requires-clause-long g c =
-    (leads_kept _ _ _ _ _ _ _ c.settle-turn.ensures.turn).1 ∙ (locked g (goal.at.unlock-requires-clause-long g c).After-take_lock).2
+    (leads_kept _ _ _ _ _ _ c.settle-turn.ensures.turn).1 ∙ (locked g (goal.at.unlock-requires-clause-long g c).After-take_lock).2
 
 pub unlock-requires-clause-held : goal.unlock-requires-clause-held
 unlock-requires-clause-held g c =
-    (leads_kept _ _ _ _ _ _ _ c.settle-turn.ensures.turn).0 ∙ (locked g (goal.at.unlock-requires-clause-held g c).After-take_lock).0
+    (leads_kept _ _ _ _ _ _ c.settle-turn.ensures.turn).0 ∙ (locked g (goal.at.unlock-requires-clause-held g c).After-take_lock).0
 
 pub returns-clause-no_lock : goal.returns-clause-no_lock
 returns-clause-no_lock g c = unlocked_parts c.settle-turn.new.pass.me.0 c.unlock.new.pass.me.0 c.unlock.ensures.free
@@ -87,6 +81,6 @@ pub returns-clause-turn : goal.returns-clause-turn
 returns-clause-turn g c =
     let s = still g (goal.at.returns-clause-turn g c).After-load in
     let key = key_of (site_at c.args.points.now c.args.n) c.args.spot.level in
-    leads_still _ c.load.new.pass.me.0 _ c.args.n c.args.pool c.args.spare.now key c.settle-turn.result s
-    (leads_unlocked c.load.new.pass.me.0 c.take_lock.new.pass.me.0 c.settle-turn.new.pass.me.0 _ c.args.spot.lock c.args.n c.args.pool
+    leads_still _ c.load.new.pass.me.0 _ c.args.n c.args.spare.now key c.settle-turn.result s
+    (leads_unlocked c.load.new.pass.me.0 c.take_lock.new.pass.me.0 c.settle-turn.new.pass.me.0 _ c.args.spot.lock c.args.n
     c.args.spare.now key c.settle-turn.result (s.locks ∙ c.requires.no_lock.0) c.take_lock.ensures.taken c.settle-turn.ensures.turn c.unlock.ensures.free)

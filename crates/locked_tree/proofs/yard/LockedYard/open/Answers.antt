@@ -7,7 +7,7 @@ use Rattle.bh_model.specs.Bodies.{NoneTwice}
 use Rattle.tree_passes.specs.declared.view.View.{View}
 use Rattle.tree_passes.specs.Opening.{Opening, fresh_view}
 use Rattle.tree_passes.specs.Ends.{CanOpen}
-use Rattle.locked_tree.specs.Seen.{HasStock, IsAtRest, IsCounted}
+use Rattle.locked_tree.specs.Seen.{HasStock, IsAtRest, IsCounted, spare_of}
 use Rattle.locked_tree.proofs.Starts.{can_open, can_pool, length-numbers, numbers_once, rest_begun, room_few}
 use Rattle.locked_tree.proofs.yard.LockedYard.open.Goals as goal
 
@@ -62,7 +62,8 @@ invariant_of-pass c =
     let stock : HasStock c.args.pool d.result.quota (length held) (length c.extend_from_slice.new.self.items) =
     subst (λ (z : ℕ × List ℕ). HasStock c.args.pool d.result.quota z.0 (length z.1)) (λ i. (sym count i, sym bodies i)) d.ensures.stock in (
       ap (λ z. z.1) e.pass.1,
-      subst (λ (z : View × ℕ × List ℕ). IsAtRest z.0 z.1 c.args.pool z.2) (λ i. (sym view i, sym words i, sym c.of.ensures.cells i))
+      subst (λ (z : View × ℕ × List ℕ × List ℕ). IsAtRest z.0 z.1 c.args.pool (spare_of c.args.pool z.2 z.3))
+          (λ i. (sym view i, sym words i, sym c.of.ensures.cells i, sym c.empty.ensures i))
           (rest_begun c.deref-2.result.now c.in_ok-words.words.items c.extend_from_slice.new.self.items held c.args.pool d.result.quota
           opens stock),
       subst (λ (z : View). IsCounted z 0 0) (sym view) (record { todo_few = few; bodies = refl; publications = refl }),
