@@ -1,5 +1,5 @@
 -- The moments of trees of a scene's bodies have their bounds.
-use Rattle.std.proofs.Common.{ℕ, ◌<◌, ◌^◌, ◌*◌, ◌≤◌, ◌≡◌, ap, ◌∙◌, arith, subst, sym, inl, inr, List, length, All}
+use Rattle.std.proofs.Common.{ℕ, ◌<◌, ◌^◌, ◌≤◌, ◌≡◌, ap, ◌∙◌, arith, subst, sym, inl, inr, List, length, All}
 use Rattle.std.proofs.lemmas.Bool.{cases_lt}
 use Rattle.std.proofs.lemmas.List.{get_or-map, get_or_past}
 use Rattle.std.proofs.lemmas.List.Elements.{All-get_or}

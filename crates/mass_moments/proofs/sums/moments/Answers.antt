@@ -1,6 +1,5 @@
 use Rattle.std.proofs.Common.{◌≡◌, ◌<◌, ◌∙◌, ℕ, List, ap, arith, drop, length, subst, sym}
 use Rattle.std.proofs.lemmas.List.{length-map, take_at}
-use Rattle.octant_code.specs.Points.{site_at}
 use Rattle.bh_model.specs.Bodies.{IsIn}
 use Rattle.bh_model.specs.Trees.{Tree, order}
 use Rattle.octree.proofs.Laws.{body_known}
