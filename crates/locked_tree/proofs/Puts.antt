@@ -1,8 +1,6 @@
 -- Facts between the steps of an insertion under locks.
-use Rattle.std.proofs.Common.{◌≡◌, ◌≢◌, ℕ, ◌+◌, ◌*◌, ◌-◌, ◌^◌, ◌<◌, ◌≤◌, List, [], ◌∷◌, ◌++◌, length, take, set, sym, refl, ap, length-append, ◌∙◌, subst, inl, arith}
-use mathlib.Core.Logic.{dite}
-use native.Mathlib.Decide.{ℕ_discrete}
-use Rattle.std.proofs.lemmas.List.{length-take-le, take_all, take_more_set}
+use Rattle.std.proofs.Common.{◌≡◌, ◌≢◌, ℕ, ◌+◌, ◌*◌, ◌^◌, ◌<◌, ◌≤◌, List, [], ◌∷◌, length, take, sym, refl, ap, ◌∙◌, subst, inl, arith}
+use Rattle.std.proofs.lemmas.List.{length-take-le}
 use Rattle.octant_code.specs.declared.limits.TheConstants.{LEVELS}
 use Rattle.octant_code.specs.Space.{Site, key_of, octant_of}
 use Rattle.octant_code.specs.Points.{site_at, ArePoints}
@@ -12,14 +10,14 @@ use Rattle.tree_rule.specs.Words.{child_place, lock_place}
 use Rattle.tree_rule.proofs.Laws.{ACell, NoBody, OneBody, WordIs, word_is}
 use Rattle.octree.specs.Stored.{word_count}
 use Rattle.tree_passes.specs.declared.view.View.{View}
-use Rattle.tree_passes.specs.Counting.{same, times, Has, without}
+use Rattle.tree_passes.specs.Counting.{times, Has, without}
 use Rattle.tree_passes.specs.Locks.{IsLock, IsLockOf, OfChild, OfRoot, CellsLock, RootsLock}
 use Rattle.tree_passes.specs.Looks.{Looked, Tells}
 use Rattle.tree_passes.specs.Making.{IsReady}
 use Rattle.tree_passes.specs.Passes.{after_publication, KnowsPlace}
 use Rattle.tree_passes.specs.Plays.{LookedUnder}
-use Rattle.tree_passes.specs.Turns.{Descends, IsFound, IsInserted, IsStill, IsThere}
-use Rattle.tree_passes.proofs.Laws.{descends_from, found_learnt, inserted_published, place_below, place_still, same-eq, same-ne, still_looked, times-append}
+use Rattle.tree_passes.specs.Turns.{Descends, IsFound, IsInserted, IsStill}
+use Rattle.tree_passes.proofs.Laws.{descends_from, found_learnt, inserted_published, place_below, place_still, same-eq, still_looked}
 use Rattle.locked_tree.specs.declared.insert.Spot.{Spot}
 use Rattle.locked_tree.specs.declared.insert.Turn.{Turn}
 use Rattle.locked_tree.specs.declared.insert.Turn.TheVariants as turn

@@ -1,5 +1,5 @@
 -- What a pass is between its calls, after an insertion and after a search.
-use Rattle.std.proofs.Common.{◌≡◌, ℕ, zero, suc, ◌+◌, ◌-◌, ◌<◌, ◌≤◌, cond, Bool, true, false, Option, None, Some, IfNone, IfSome, List, [], ◌∷◌, length, take, drop, refl, sym, ap, ◌∙◌, subst, arith, eq-eqb, ne_eqb}
+use Rattle.std.proofs.Common.{◌≡◌, ℕ, zero, suc, ◌+◌, ◌-◌, ◌<◌, ◌≤◌, Bool, true, false, Option, None, Some, IfNone, IfSome, List, [], ◌∷◌, length, take, drop, refl, sym, ap, ◌∙◌, subst, arith}
 use mathlib.Core.Logic.{dite}
 use native.Mathlib.Decide.{ℕ_discrete}
 use Rattle.std.proofs.lemmas.List.{length-drop, length-take-le}

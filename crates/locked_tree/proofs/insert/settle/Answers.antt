@@ -1,4 +1,4 @@
-use Rattle.std.proofs.Common.{arith, ◌-◌, ◌≤◌, ◌∙◌, ℕ, [], length, subst, sym}
+use Rattle.std.proofs.Common.{arith, ◌-◌, ◌≤◌, ◌∙◌, ℕ, [], length, subst}
 use Rattle.octant_code.specs.declared.limits.TheConstants.{LEVELS}
 use Rattle.octant_code.specs.Space.{key_of}
 use Rattle.octant_code.specs.Points.{site_at}

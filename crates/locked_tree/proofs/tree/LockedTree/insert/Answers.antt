@@ -15,7 +15,7 @@ invariant_of-pass g c =
     let todo : 1 ≤ times c.args.n f.seat.me.0.todo =
     subst (λ (z : List ℕ). 1 ≤ times c.args.n z) (sym (ap (λ (p : PassState). p.todo) c.pass.view_is)) c.requires.todo in (
       e.pass.1 ∙ i.0,
-      subst (λ (z : ℕ). IsAtRest v z f.pool (spare_of f.pool c.insert_from.new.region.cells c.insert_from.new.stock)) 
+      subst (λ (z : ℕ). IsAtRest v z f.pool (spare_of f.pool c.insert_from.new.region.cells c.insert_from.new.stock))
           (sym (ap (λ z. z.words) (e.pass.0 ∙ place))) e.rest,
       counted_put f.seat.me.0 v c.args.n f.published f.changes c.saturating_add-pass-inside.result c.saturating_add-pass-inside-2.result e.put.todo e.put.done
           e.put.changes todo i.2 c.saturating_add-pass-inside.ensures c.saturating_add-pass-inside-2.ensures,
