@@ -16,7 +16,7 @@ use Rattle.tree_passes.proofs.Laws.{in_times, times_in}
 use Rattle.locked_tree.specs.Ends.{IsTreeAtEnd}
 
 -- nothing is read below an empty first word
-reached_blank : (at : ℕ → ℕ) (top w : ℕ) → top ≡ 0 → IsReached at top w → w ≡ 0
+pub reached_blank : (at : ℕ → ℕ) (top w : ℕ) → top ≡ 0 → IsReached at top w → w ≡ 0
 reached_blank at top _ e (Here w f) = f ∙ e
 reached_blank at top _ e (Below c k w r l f) = absurd (omega (arith, reached_blank at top (cell_word c) e r))
 

@@ -19,6 +19,8 @@ pub struct Hand<'a> {
     pub pass: LockedPass,
     pub share: &'a [u32],
     pub worker: u32,
+    // so that what a worker counts is on no line of the caches with what another one reads
+    pub apart: [u64; 8],
 }
 
 /// Splits a pass for each share off.
@@ -44,6 +46,7 @@ pub fn deal_hands<'a>(
             pass: own,
             share,
             worker: w as u32,
+            apart: [0; 8],
         })?;
     }
     Ok(hands)
