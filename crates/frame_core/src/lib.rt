@@ -9,3 +9,4 @@ mod tree;
 
 pub use bh_model::{Builder, Plan};
 pub use engine::Engine;
+pub use shares::first_shares;
