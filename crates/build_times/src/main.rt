@@ -1,0 +1,195 @@
+//! Times the phases of builders beside insertion by one thread.
+//!
+//! Usage: build_times ROUNDS < SCENE
+//!
+//! It reads a scene, builds the octree of its bodies in rounds, and tells on standard error the times in
+//! nanoseconds, each on a line with its name. In each round come, one after another, `Octree::of_points`
+//! (`sorted`), insertion by one thread in the order of the bodies' numbers (`plain`), and the builder
+//! ORIG with 1, 2 and 4 workers, whose shares are those of the first frame. A builder's phases are
+//! `open`, up to the first worker's start, `insert`, up to the last worker's end, and `close`, in which
+//! the workers are joined and the yard is closed; `free` is the time to give its octree back. Each is
+//! the least of all rounds, but the `first` ones, which are those of the process's first tree, with one
+//! worker. With other words it tells nothing.
+#![tactic(auto)]
+
+mod gate;
+mod one_thread;
+
+ghost use Rattle.bh_model.specs.Plans.{HasWorkers};
+
+use bh_outside::{Input, StdSource, read_all};
+use frame_core::first_shares;
+use gate::NotingGate;
+use locked_tree::LockedYard;
+use octant_code::Points;
+use octree::Octree;
+use one_thread::insert_all;
+use orig_build::build;
+use scene_file::{MOST_BYTES, read_scene};
+use std::alloc::{AllocError, Global};
+use std::env;
+use std::sync::{Arc, Wait};
+use std::thread::Threads;
+use std::time::{Clock, Instant};
+
+/// How many words of 64 bits make the block that `nbody` takes and gives back at its start.
+const BLOCK_WORDS: usize = 4_190_000;
+
+/// The times of a builder's phases, in nanoseconds.
+#[derive(Clone, Copy, Drop)]
+struct Phases {
+    open: u64,
+    insert: u64,
+    close: u64,
+    free: u64,
+}
+
+/// The times of a round, in nanoseconds: of one thread in key order, with the sort, and in number
+/// order, and of the builder's phases with 1, 2 and 4 workers.
+#[derive(Clone, Copy, Drop)]
+struct Round {
+    sorted: u64,
+    plain: u64,
+    one: Phases,
+    two: Phases,
+    four: Phases,
+}
+
+impl Phases {
+    /// The least of both, phase by phase.
+    fn least(self, other: Phases) -> Phases {
+        Phases {
+            open: self.open.min(other.open),
+            insert: self.insert.min(other.insert),
+            close: self.close.min(other.close),
+            free: self.free.min(other.free),
+        }
+    }
+}
+
+impl Round {
+    /// The least of both, time by time.
+    fn least(self, other: Round) -> Round {
+        Round {
+            sorted: self.sorted.min(other.sorted),
+            plain: self.plain.min(other.plain),
+            one: self.one.least(other.one),
+            two: self.two.least(other.two),
+            four: self.four.least(other.four),
+        }
+    }
+}
+
+/// The nanoseconds since a moment.
+fn since<R: Clock>(rt: &R, start: Instant) -> anyhow::Result<u64> {
+    Ok(u64::try_from(start.elapsed(rt)?.as_nanos())?)
+}
+
+/// The times of the phases of one build by so many workers.
+fn time_build<R: Clock + Threads + Wait + Sync>(
+    rt: &R,
+    alloc: Global,
+    points: &Arc<Points>,
+    workers: u32,
+) -> anyhow::Result<Phases>
+    requires { HasWorkers workers }
+{
+    let shares = first_shares(alloc, workers, points.len())?;
+    let mut yard = LockedYard::new();
+    let start = Instant::now(rt)?;
+    let gate = NotingGate::new(rt, start);
+    let tree = build(rt, alloc, &mut yard, points, &shares, &gate)?;
+    let built = since(rt, start)?;
+    drop(tree);
+    let freed = since(rt, start)?;
+    Ok(Phases {
+        open: gate.first(),
+        insert: gate.last().saturating_sub(gate.first()),
+        close: built.saturating_sub(gate.last()),
+        free: freed.saturating_sub(built),
+    })
+}
+
+/// The times of one round.
+fn time_round<R: Clock + Threads + Wait + Sync>(
+    rt: &R,
+    alloc: Global,
+    points: &Arc<Points>,
+) -> anyhow::Result<Round> {
+    let start = Instant::now(rt)?;
+    let sorted_tree = Octree::of_points(alloc, points)?;
+    let sorted = since(rt, start)?;
+    drop(sorted_tree);
+    let start = Instant::now(rt)?;
+    let plain_tree = insert_all(alloc, points)?;
+    let plain = since(rt, start)?;
+    drop(plain_tree);
+    Ok(Round {
+        sorted,
+        plain,
+        one: time_build(rt, alloc, points, 1)?,
+        two: time_build(rt, alloc, points, 2)?,
+        four: time_build(rt, alloc, points, 4)?,
+    })
+}
+
+/// The times of the first tree, and the least of some rounds after it.
+fn times_of<R: Clock + Threads + Wait + Sync>(
+    rt: &R,
+    alloc: Global,
+    points: &Arc<Points>,
+    rounds: u32,
+) -> anyhow::Result<(Phases, Round)> {
+    let first = time_build(rt, alloc, points, 1)?;
+    let mut least = time_round(rt, alloc, points)?;
+    for _ in 1..rounds {
+        least = least.least(time_round(rt, alloc, points)?);
+    }
+    Ok((first, least))
+}
+
+/// Takes a great block and gives it back as `nbody` does, so that the blocks of later trees are kept.
+fn keep_blocks(alloc: Global) -> Result<(), AllocError> {
+    let mut block: Vec<u64> = Vec::with_capacity(alloc, BLOCK_WORDS)?;
+    block.push(0)?;
+    Ok(())
+}
+
+fn main(rt: HostRuntime) -> anyhow::Result<()> {
+    let alloc = rt.alloc();
+    keep_blocks(alloc)?;
+    let words: Vec<String> = env::args(&rt)?.skip(1).collect(alloc)?;
+    let Some(Ok(rounds)) = words.first().map(|word| word.parse::<u32>()) else {
+        return Ok(());
+    };
+    let mut source = StdSource::new(rt.stdin());
+    let Input::Whole(bytes) = read_all(alloc, &mut source, MOST_BYTES)? else {
+        return Ok(());
+    };
+    let scene = read_scene(alloc, &bytes)?;
+    let points = Arc::new(alloc, scene.bodies.points(alloc)?)?;
+    let (first, least) = times_of(&rt, alloc, &points, rounds)?;
+    for (name, nanos) in [
+        ("sorted", least.sorted),
+        ("plain", least.plain),
+        ("first.open", first.open),
+        ("first.insert", first.insert),
+        ("first.close", first.close),
+        ("first.free", first.free),
+        ("1.open", least.one.open),
+        ("1.insert", least.one.insert),
+        ("1.close", least.one.close),
+        ("1.free", least.one.free),
+        ("2.open", least.two.open),
+        ("2.insert", least.two.insert),
+        ("2.close", least.two.close),
+        ("2.free", least.two.free),
+        ("4.open", least.four.open),
+        ("4.insert", least.four.insert),
+        ("4.close", least.four.close),
+        ("4.free", least.four.free),
+    ] {
+        eprintln!(rt; "{name} {nanos}")?;
+    }
+    Ok(())
+}
