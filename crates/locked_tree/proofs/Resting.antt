@@ -15,7 +15,7 @@ use Rattle.tree_passes.specs.Looks.{Sought}
 use Rattle.tree_passes.specs.Making.{IsReady}
 use Rattle.tree_passes.specs.Plays.{IsDrawn}
 use Rattle.tree_passes.specs.Turns.{HasFound, HasNone, IsStill}
-use Rattle.tree_passes.proofs.Laws.{ready_still, same-eq, same-ne, times-without}
+use Rattle.tree_passes.proofs.Laws.{ready_still, same-eq, same-ne, times-without, length-without}
 use Rattle.locked_tree.specs.declared.tree.Pool.{Pool}
 use Rattle.locked_tree.specs.declared.tree.Pool.TheVariants as pool
 use Rattle.locked_tree.specs.Inserting.{HasDrawn, HasPut, IsPutIn}

@@ -1,5 +1,5 @@
 -- A tree that was opened empty, and closed with all bodies put in.
-use Rattle.std.proofs.Common.{ℕ, ◌-◌, ◌<◌, ◌≡◌, ◌↔◌, ◌∙◌, ap, subst, inl, inr, arith, List, length}
+use Rattle.std.proofs.Common.{ℕ, ◌-◌, ◌≡◌, ◌↔◌, ◌∙◌, ap, subst, inl, inr, arith, List, length}
 use Rattle.std.proofs.lemmas.Bool.{cases_lt}
 use Rattle.octant_code.specs.Space.{Site}
 use Rattle.octant_code.specs.Points.{site_at}
