@@ -1,18 +1,18 @@
 -- What the plain program's steps say of a moment.
-use Rattle.std.proofs.Common.{◌≡◌, ◌≢◌, ◌≤◌, ◌<◌, ◌+◌, ◌-◌, ◌*◌, ◌^◌, ◌⊎◌, ℕ, zero, suc, List, [], ◌∷◌, All, length, get_or, refl, sym, ap, ◌∙◌, inl, inr}
+use Rattle.std.proofs.Common.{◌≡◌, ◌≢◌, ◌≤◌, ◌<◌, ◌+◌, ◌-◌, ◌*◌, ◌^◌, ◌⊎◌, ℕ, zero, suc, List, [], ◌∷◌, All, length, get_or, refl, sym, ap, ◌∙◌}
 use Rattle.std.proofs.Common.{arith, sum_by}
 use Rattle.std.proofs.lemmas.List.Sums.{sum_by-cons}
 use Rattle.octant_code.specs.Points.{ArePoints, site_at}
 use Rattle.octant_code.specs.Space.{Site, origin, IsInCube}
 use Rattle.bh_model.specs.Bodies.{IsIn}
 use Rattle.bh_model.specs.Moments.{FitsWords, Matter, add_moment, moment, moment_of_body, no_moment, total}
-use Rattle.bh_model.specs.Trees.{Tree, cell_of, in_octant, octree, octree_from}
+use Rattle.bh_model.specs.Trees.{Tree, in_octant, octree, octree_from}
 use Rattle.bh_model.specs.declared.moment.Moment.{Moment}
 use Rattle.bh_model.proofs.Cells.{member_of_all}
 use Rattle.bh_model.proofs.Moments.{moment_upto, upto_all, upto_more}
 use Rattle.bh_model.proofs.Splits.{empty_tree, octant_trees, one_tree, split_tree}
 use Rattle.bh_model.proofs.Standing.{sum_octants}
-use Rattle.bh_model.proofs.Totals.{sum_products, sum_upto, sum_upto-times, total-body, total-cell, total-empty}
+use Rattle.bh_model.proofs.Totals.{sum_products, sum_upto-times, total-body, total-cell, total-empty}
 use Rattle.bh_model.proofs.Trees.{octree-none, octree-one, octree-deep, octree-many}
 
 -- ---- the moment of each kind of list

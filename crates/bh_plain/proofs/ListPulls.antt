@@ -12,7 +12,7 @@ use Rattle.octant_code.proofs.Keys.{key-next-fits}
 use Rattle.bh_model.specs.Bodies.{IsIn, numbers}
 use Rattle.bh_model.specs.Moments.{FitsWords, Matter, centre, mass_of, matter_by, moment, total}
 use Rattle.bh_plain.specs.Parts.{IsPart}
-use Rattle.bh_model.specs.Pulls.{IsSmall, PullLaw, add_pull, is_far, is_whole, no_pull, pull_from, term}
+use Rattle.bh_model.specs.Pulls.{IsSmall, PullLaw, is_far, is_whole, no_pull, pull_from, term}
 use Rattle.bh_model.specs.Trees.{Tree, Body, cell_of, in_octant, octree_from, order}
 use Rattle.bh_model.specs.declared.pull.Pull.{Pull}
 use Rattle.bh_model.proofs.AllBodies.{sum_of_some}
@@ -20,11 +20,11 @@ use Rattle.bh_model.proofs.Cells.{in_octant-once, in_octant-under, member_of_all
 use Rattle.bh_model.proofs.Lists.{in_numbers, numbers_once}
 use Rattle.bh_model.proofs.Orders.{from_list}
 use Rattle.bh_plain.proofs.ListMoments.{bodies_in_cube, part_fits, sum_ones, total_within}
-use Rattle.bh_model.proofs.PullSums.{pull_step, pull_upto, sum_scaled, upto_small}
-use Rattle.bh_model.proofs.PullBounds.{points_apart, pull_fits, pull_small, pull-opened, pull-whole, small_add, small_more, small_none}
+use Rattle.bh_model.proofs.PullSums.{pull_upto, sum_scaled, upto_small}
+use Rattle.bh_model.proofs.PullBounds.{points_apart, pull_fits, pull_small, pull-opened, pull-whole, small_more}
 use Rattle.bh_model.proofs.Splits.{empty_tree, octant_trees, octants_within, one_tree, split_tree}
 use Rattle.bh_model.proofs.Standing.{count_numbers, count_own, is_own, stands_of_list, sum_octants, total_own_other}
-use Rattle.bh_model.proofs.Totals.{sum_upto, sum_upto-le, sum_upto-term, total-order, total_products}
+use Rattle.bh_model.proofs.Totals.{sum_upto-le, sum_upto-term, total_products}
 
 -- ---- the pull of each kind of list
 

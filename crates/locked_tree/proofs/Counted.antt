@@ -4,8 +4,8 @@ use Rattle.octant_code.specs.Space.{Site}
 use Rattle.tree_passes.specs.declared.view.View.{View}
 use Rattle.tree_passes.specs.Counting.{times, without}
 use Rattle.tree_passes.specs.Turns.{HasFound, HasNone, IsStill}
+use Rattle.tree_passes.proofs.Laws.{length-without}
 use Rattle.locked_tree.specs.Seen.{IsCounted, risen}
-use Rattle.locked_tree.proofs.Rests.{length-without}
 
 -- one body more, and one publication
 pub counted_put : (v w : View) (n published changes p q : ℕ) → w.todo ≡ without n v.todo → w.done ≡ n ∷ v.done → w.changes ≡ v.changes + 1

@@ -20,7 +20,6 @@ use Rattle.locked_tree.specs.declared.tree.Pool.{Pool}
 use Rattle.locked_tree.specs.declared.tree.Pool.TheVariants as pool
 use Rattle.locked_tree.specs.Inserting.{HasDrawn, HasPut, IsPutIn}
 use Rattle.locked_tree.specs.Seen.{HasStock, IsAtRest}
-use Rattle.locked_tree.proofs.Rests.{length-without}
 
 pub true_not_false : true ≡ false → ⊥
 true_not_false e = cc

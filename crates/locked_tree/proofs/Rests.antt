@@ -6,23 +6,10 @@ use Rattle.atomic_table.specs.Seated.{TableId}
 use Rattle.tree_passes.specs.declared.view.View.{View}
 use Rattle.tree_passes.specs.Counting.{times, without, without_all}
 use Rattle.tree_passes.specs.Passes.{given_part, kept_part}
-use Rattle.tree_passes.proofs.Laws.{same-eq, same-ne, times-append, times-without, times-without_all}
+use Rattle.tree_passes.proofs.Laws.{length-without, same-eq, times-append, times-without, times-without_all}
 use Rattle.locked_tree.specs.declared.tree.Pool.{Pool}
 use Rattle.locked_tree.specs.declared.tree.Pool.TheVariants as pool
 use Rattle.locked_tree.specs.Seen.{HasStock, IsAtRest, IsCounted, PassState, spare_of, state_of, stock_of}
-
--- one number less
-pub length-without : (x : ℕ) (l : List ℕ) → 1 ≤ times x l → length (without x l) + 1 ≡ length l
-length-without x [] h = absurd (omega arith)
-length-without x (y ∷ ys) h = dite (ℕ_discrete y x)
-    (λ e.
-    let f : length (without x (y ∷ ys)) ≡ length ys = ap (λ (b : Bool). length (cond b ys (y ∷ without x ys))) (eq-eqb y x e) in
-    omega arith)
-    (λ n.
-    let f : length (without x (y ∷ ys)) ≡ length (y ∷ without x ys) = ap (λ (b : Bool). length (cond b ys (y ∷ without x ys))) (ne_eqb y x n) in
-    let o = same-ne y x n in
-    let r = length-without x ys (omega arith) in
-    omega arith)
 
 -- numbers that all stand in a list are no more than its
 pub length-without_all : (part l : List ℕ) → ((x : ℕ) → times x part ≤ times x l) → length (without_all part l) + length part ≡ length l
