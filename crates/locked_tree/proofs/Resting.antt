@@ -1,24 +1,21 @@
 -- What a pass is between its calls, after an insertion and after a search.
-use Rattle.std.proofs.Common.{◌≡◌, ℕ, zero, suc, ◌+◌, ◌-◌, ◌<◌, ◌≤◌, Bool, true, false, Option, None, Some, IfNone, IfSome, List, [], ◌∷◌, length, take, drop, refl, sym, ap, ◌∙◌, subst, arith}
-use mathlib.Core.Logic.{dite}
-use native.Mathlib.Decide.{ℕ_discrete}
+use Rattle.std.proofs.Common.{◌≡◌, ℕ, zero, suc, ◌+◌, ◌<◌, ◌≤◌, Bool, true, false, Option, None, Some, IfNone, IfSome, List, [], ◌∷◌, length, take, drop, refl, sym, ap, ◌∙◌, subst, arith}
 use Rattle.std.proofs.lemmas.List.{length-drop, length-take-le}
 use Rattle.octant_code.specs.Space.{Site, same_coordinates}
 use Rattle.octant_code.specs.Points.{site_at, ArePoints}
 use Rattle.octant_code.proofs.SeenPoints.{same_coordinates_refl, same_coordinates_true}
 use Rattle.tree_rule.specs.declared.words.TheConstants.{CELLS_OF_ONE}
-use Rattle.tree_rule.specs.Words.{body_word, lock_place}
+use Rattle.tree_rule.specs.Words.{body_word}
 use Rattle.tree_rule.proofs.Laws.{ACell, NoBody, OneBody, WordIs, word_is}
 use Rattle.tree_passes.specs.declared.view.View.{View}
 use Rattle.tree_passes.specs.Counting.{times, without}
 use Rattle.tree_passes.specs.Looks.{Sought}
 use Rattle.tree_passes.specs.Making.{IsReady}
-use Rattle.tree_passes.specs.Plays.{IsDrawn}
 use Rattle.tree_passes.specs.Turns.{HasFound, HasNone, IsStill}
-use Rattle.tree_passes.proofs.Laws.{ready_still, same-eq, same-ne, times-without, length-without}
+use Rattle.tree_passes.proofs.Laws.{length-without, ready_still, times-without}
 use Rattle.locked_tree.specs.declared.tree.Pool.{Pool}
 use Rattle.locked_tree.specs.declared.tree.Pool.TheVariants as pool
-use Rattle.locked_tree.specs.Inserting.{HasDrawn, HasPut, IsPutIn}
+use Rattle.locked_tree.specs.Inserting.{HasDrawn, IsPutIn}
 use Rattle.locked_tree.specs.Seen.{HasStock, IsAtRest}
 
 pub true_not_false : true ≡ false → ⊥
@@ -28,14 +25,6 @@ times_parts : (x n : ℕ) (l : List ℕ) → times x (take n l) + times x (drop 
 times_parts x zero l = omega arith
 times_parts x (suc n) [] = omega arith
 times_parts x (suc n) (y ∷ ys) = let r = times_parts x n ys in omega arith
-
--- a region has cells for a body that is to be put in
-pub cells_of_one : (quota cells n : ℕ) (todo : List ℕ) → 1 ≤ times n todo → HasStock pool.Regions quota cells (length todo) → CELLS_OF_ONE ≤ cells
-cells_of_one quota cells n todo h s = let l = length-without n todo h in omega arith
-
--- and so has a quota
-pub quota_of_one : (quota cells n : ℕ) (todo : List ℕ) → 1 ≤ times n todo → HasStock pool.Shared quota cells (length todo) → CELLS_OF_ONE ≤ quota
-quota_of_one quota cells n todo h s = let l = length-without n todo h in omega arith
 
 -- with the shared pool the quota that is left is enough
 pub quota_left : (v u w : View) (before after : List ℕ) (n cells : ℕ) → HasDrawn v u before after → length after ≤ length before + CELLS_OF_ONE
@@ -59,69 +48,36 @@ cells_left v w cells used n i few h s =
     omega arith
 
 -- An insertion leaves the pass at rest, also where cells were drawn before it.
-module _ (v u w : View) (words : ℕ) (from : Pool) (before after : List ℕ) (used n : ℕ) where
-  pub rest_put : IsAtRest v words from before → 1 ≤ times n v.todo → HasDrawn v u before after → IsReady u words after
-      → IsPutIn u w n (take used after) → w.under ≡ [] → HasStock from w.quota (length (drop used after)) (length w.todo)
-      → IsAtRest w words from (drop used after)
-  rest_put r h d ready i none_under stocked =
-      let parts : (c : ℕ) → times c (take used after) + times c (drop used after) ≡ times c after = λ c. times_parts c used after in
-      let points : w.points ≡ v.points = i.points ∙ ap (λ (z : View). z.points) d.view in
-      let todo : w.todo ≡ without n v.todo = i.todo ∙ ap (λ (z : View). without n z.todo) d.view in
-      record {
-        some = r.some;
-        few = r.few;
-        rule = subst ArePoints (sym points) r.rule;
-        no_lock = i.locks ∙ ap (λ (z : View). z.locks) d.view ∙ r.no_lock;
-        none_under = none_under;
-        todo_in = λ x p.
-            let a = times-without n x v.todo h in
-            let e : times x w.todo ≡ times x (without n v.todo) = ap (times x) todo in
-            subst (λ (z : List Site). x < length z) (sym points) (r.todo_in x (omega arith));
-        ready = record {
-          long = i.long ∙ ready.long;
-          held = λ c. let a = i.held c in let b = ready.held c in let t = parts c in omega arith;
-          once = λ c. let b = ready.once c in let t = parts c in omega arith;
-          inside = λ c p. ready.inside c (let t = parts c in omega arith);
-        };
-        stocked = stocked;
-      }
-
-  -- what it leaves
-  pub put_after : HasDrawn v u before after → IsPutIn u w n (take used after) → HasPut v w n
-  put_after d i = record {
-    points = i.points ∙ ap (λ (z : View). z.points) d.view;
-    todo = i.todo ∙ ap (λ (z : View). without n z.todo) d.view;
-    done = i.done ∙ ap (λ (z : View). n ∷ z.done) d.view;
-    seen = i.seen ∙ ap (λ (z : View). z.seen) d.view;
-    changes = i.changes ∙ ap (λ (z : View). z.changes + 1) d.view;
-  }
+pub rest_put : (v u w : View) (words : ℕ) (from : Pool) (before after : List ℕ) (used n : ℕ) → IsAtRest v words from before
+    → 1 ≤ times n v.todo → HasDrawn v u before after → IsReady u words after → IsPutIn u w n (take used after) → w.under ≡ []
+    → HasStock from w.quota (length (drop used after)) (length w.todo)
+    → IsAtRest w words from (drop used after)
+rest_put v u w words from before after used n r h d ready i none_under stocked =
+    let parts : (c : ℕ) → times c (take used after) + times c (drop used after) ≡ times c after = λ c. times_parts c used after in
+    let points : w.points ≡ v.points = i.points ∙ ap (λ (z : View). z.points) d.view in
+    let todo : w.todo ≡ without n v.todo = i.todo ∙ ap (λ (z : View). without n z.todo) d.view in
+    record {
+      some = r.some;
+      few = r.few;
+      rule = subst ArePoints (sym points) r.rule;
+      no_lock = i.locks ∙ ap (λ (z : View). z.locks) d.view ∙ r.no_lock;
+      none_under = none_under;
+      todo_in = λ x p.
+          let a = times-without n x v.todo h in
+          let e : times x w.todo ≡ times x (without n v.todo) = ap (times x) todo in
+          subst (λ (z : List Site). x < length z) (sym points) (r.todo_in x (omega arith));
+      ready = record {
+        long = i.long ∙ ready.long;
+        held = λ c. let a = i.held c in let b = ready.held c in let t = parts c in omega arith;
+        once = λ c. let b = ready.once c in let t = parts c in omega arith;
+        inside = λ c p. ready.inside c (let t = parts c in omega arith);
+      };
+      stocked = stocked;
+    }
 
 -- nothing was drawn
 pub drawn_none : (v : View) (cells : List ℕ) → HasDrawn v v cells cells
 drawn_none v cells = record { view = refl; held = λ c. refl; quota = refl }
-
--- one cell more is drawn
-pub drawn_more : (u v w : View) (before now : List ℕ) (c : ℕ) → 1 ≤ v.quota → HasDrawn u v before now → IsDrawn v c w → HasDrawn u w before (c ∷ now)
-drawn_more u v w before now c some d i = subst (λ (z : View). HasDrawn u z before (c ∷ now)) (sym i.view) (record {
-  view = ap (λ (z : View). record z { held = c ∷ v.held; quota = v.quota - 1; memory = i.memory }) d.view;
-  held = λ x. let a = d.held x in omega arith;
-  quota = let a = d.quota in omega arith;
-})
-
--- and the stock is ready with it
-pub ready_more : (v w : View) (words : ℕ) (now : List ℕ) (c : ℕ) → IsReady v words now → IsDrawn v c w → IsReady w words (c ∷ now)
-ready_more v w words now c r i =
-    let alone : (x : ℕ) → c ≡ x → (times x v.held ≡ 0) × (lock_place x < length v.memory) =
-    λ x e. subst (λ (z : ℕ). (times z v.held ≡ 0) × (lock_place z < length v.memory)) e (i.fresh, i.inside) in
-    subst (λ (z : View). IsReady z words (c ∷ now)) (sym i.view) (record {
-      long = i.long ∙ r.long;
-      held = λ x. let a = r.held x in omega arith;
-      once = λ x. dite (ℕ_discrete c x)
-          (λ e. let a = r.held x in let f = (alone x e).0 in let z = same-eq c x e in omega arith)
-          (λ n. let a = r.once x in let z = same-ne c x n in omega arith);
-      inside = λ x p. dite (ℕ_discrete c x) (λ e. subst (λ (z : ℕ). lock_place x < z) r.long (alone x e).1)
-          (λ n. r.inside x (let z = same-ne c x n in omega arith));
-    })
 
 -- and so does a load
 pub rest_still : (v w : View) (words : ℕ) (from : Pool) (cells : List ℕ) → IsStill v w → w.under ≡ [] → IsAtRest v words from cells
