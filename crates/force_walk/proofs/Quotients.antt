@@ -1,10 +1,8 @@
--- A quotient by a rate that is a little too small: the rate counts parts of one unit of the quotient, and so many parts, the slack,
--- may be missing.
-use Rattle.std.proofs.Common.{◌≡◌, ℕ, zero, suc, ◌+◌, ◌-◌, ◌*◌, ◌/◌, ◌%◌, ◌<◌, ◌≤◌, ◌^◌, inl, inr, leb, cond, ℤ, pos, neg_ℤ, ap, ◌∙◌, sym, arith}
-use Rattle.std.proofs.lemmas.Nat.{mul-le, mul-lt, div-mul-add, div-add-mod'}
+-- A quotient by a rate that is a little too small: the rate counts parts of 2^-32, and up to two of them may be missing.
+use Rattle.std.proofs.Common.{◌≡◌, ℕ, zero, suc, ◌+◌, ◌-◌, ◌*◌, ◌/◌, ◌%◌, ◌<◌, ◌≤◌, ◌^◌, inl, inr, ℤ, pos, neg_ℤ, ap, ◌∙◌, sym, arith}
+use Rattle.std.proofs.lemmas.Nat.{mul-le, div-mul-add, div-add-mod'}
 use Rattle.std.proofs.lemmas.Bool.{cases_lt}
 use Rattle.std.proofs.Math.Nat.{mul_right_comm, mul-zero, zero-div}
-use Rattle.std.proofs.lemmas.Bool.Decides.{nat_tests}
 use Rattle.std.specs.Int.{w64, abs_diff}
 use mir.Val.{to_z, of_z}
 use Rattle.octant_code.specs.Space.{Site, squared_distance}
@@ -27,52 +25,50 @@ pub factor-out : (a b c : ℕ) → a * c < b * c → a < b
 factor-out a b c h = elim (cases_lt a b) [ inl lt ↦ lt | inr ge ↦ absurd (omega (arith, mul-le b c a c ge (omega arith))) ]
 
 -- what is at most the quotient
-share-low : (scale divisor rate gap unit q : ℕ) → rate * divisor ≤ scale * unit → q * unit ≤ rate * gap → 0 < unit → q * divisor ≤ scale * gap
-share-low scale divisor rate gap unit q low share some =
-    let one : q * unit * divisor ≤ rate * gap * divisor = mul-le (q * unit) divisor (rate * gap) divisor share (omega arith) in
-    let two : rate * divisor * gap ≤ scale * unit * gap = mul-le (rate * divisor) gap (scale * unit) gap low (omega arith) in
-    let e : q * divisor * unit ≤ scale * gap * unit = omega
-    (arith, mul_right_comm q unit divisor, mul_right_comm rate gap divisor, mul_right_comm scale unit gap) in
-    let next : q * divisor * unit < (scale * gap + 1) * unit = omega arith in
-    omega (arith, factor-out (q * divisor) (scale * gap + 1) unit next)
+share-low : (scale divisor rate gap q : ℕ) → rate * divisor ≤ scale * 2 ^ 32 → q * 2 ^ 32 ≤ rate * gap → q * divisor ≤ scale * gap
+share-low scale divisor rate gap q low share =
+    omega (
+      arith,
+      mul-le (q * 2 ^ 32) divisor (rate * gap) divisor share (omega arith),
+      mul-le (rate * divisor) gap (scale * 2 ^ 32) gap low (omega arith),
+      mul_right_comm rate gap divisor,
+    )
 
 -- and what is above it
-share-high : (scale divisor rate gap unit slack q : ℕ) → scale * unit < (rate + slack) * divisor → (rate + slack) * gap ≤ (q + 1) * unit → 0 < gap
+share-high : (scale divisor rate gap q : ℕ) → scale * 2 ^ 32 < (rate + 2) * divisor → (rate + 2) * gap ≤ (q + 1) * 2 ^ 32 → 0 < gap
     → scale * gap < (q + 1) * divisor
-share-high scale divisor rate gap unit slack q high share some =
-    let one : (rate + slack) * gap * divisor ≤ (q + 1) * unit * divisor = mul-le ((rate + slack) * gap) divisor ((q + 1) * unit) divisor share (omega arith) in
-    let two : (scale * unit + 1) * gap ≤ (rate + slack) * divisor * gap = mul-le (scale * unit + 1) gap ((rate + slack) * divisor) gap (omega arith)
-    (omega arith) in
-    let e : scale * gap * unit < (q + 1) * divisor * unit =
-    omega (arith, mul_right_comm scale unit gap, mul_right_comm (rate + slack) gap divisor, mul_right_comm (q + 1) unit divisor) in
-    factor-out (scale * gap) ((q + 1) * divisor) unit e
+share-high scale divisor rate gap q high share some =
+    omega (
+      arith,
+      mul-le ((rate + 2) * gap) divisor ((q + 1) * 2 ^ 32) divisor share (omega arith),
+      mul-le (scale * 2 ^ 32 + 1) gap ((rate + 2) * divisor) gap (omega arith) (omega arith),
+      mul_right_comm (rate + 2) gap divisor,
+    )
 
 -- the share of the rate is the quotient
-pub share-is : (scale divisor rate gap unit slack : ℕ) → IsRate scale divisor unit slack rate → rate * gap % unit + slack * gap ≤ unit → 0 < unit
-    → rate * gap / unit ≡ scale * gap / divisor
-share-is scale divisor rate zero unit slack is sure some =
-    ap (λ n. n / unit) (mul-zero rate) ∙ zero-div unit ∙ sym (ap (λ n. n / divisor) (mul-zero scale) ∙ zero-div divisor)
-share-is scale divisor rate (suc gap) unit slack is sure some =
-    let q : ℕ = rate * suc gap / unit in
-    let split : q * unit + rate * suc gap % unit ≡ rate * suc gap = div-add-mod' (rate * suc gap) unit in
-    let below : q * divisor ≤ scale * suc gap = share-low scale divisor rate (suc gap) unit q is.low (omega arith) some in
-    let above : scale * suc gap < (q + 1) * divisor = share-high scale divisor rate (suc gap) unit slack q (omega (arith, is.high)) (omega arith)
-    (omega arith) in
-    quotient-is (scale * suc gap) divisor q below (omega arith)
+pub share-is : (scale divisor rate gap : ℕ) → IsRate scale divisor rate → rate * gap % 2 ^ 32 + 2 * gap ≤ 2 ^ 32
+    → rate * gap / 2 ^ 32 ≡ scale * gap / divisor
+share-is scale divisor rate zero is sure =
+    ap (λ n. n / 2 ^ 32) (mul-zero rate) ∙ sym (ap (λ n. n / divisor) (mul-zero scale) ∙ zero-div divisor)
+share-is scale divisor rate (suc gap) is sure =
+    let q : ℕ = rate * suc gap / 2 ^ 32 in
+    let split : q * 2 ^ 32 + rate * suc gap % 2 ^ 32 ≡ rate * suc gap = div-add-mod' (rate * suc gap) (2 ^ 32) in
+    quotient-is (scale * suc gap) divisor q (share-low scale divisor rate (suc gap) q is.low (omega arith))
+    (omega (arith, share-high scale divisor rate (suc gap) q (omega (arith, is.high)) (omega arith) (omega arith)))
 
 -- a share upwards is the coordinate of a term
-pub component-shared-up : (scale from to divisor rate gap unit slack : ℕ) → from ≤ to → gap ≡ abs_diff from to → IsRate scale divisor unit slack rate
-    → rate * gap % unit + slack * gap ≤ unit → 0 < unit → pos (rate * gap / unit) ≡ component scale from to divisor
-component-shared-up scale from to divisor rate gap unit slack up is_gap is sure some =
+pub component-shared-up : (scale from to divisor rate gap : ℕ) → from ≤ to → gap ≡ abs_diff from to → IsRate scale divisor rate
+    → rate * gap % 2 ^ 32 + 2 * gap ≤ 2 ^ 32 → pos (rate * gap / 2 ^ 32) ≡ component scale from to divisor
+component-shared-up scale from to divisor rate gap up is_gap is sure =
     let g : gap ≡ to - from = omega arith in
-    ap pos (share-is scale divisor rate gap unit slack is sure some) ∙ ap (λ n. pos (scale * n / divisor)) g ∙ sym (component-up scale from to divisor up)
+    ap pos (share-is scale divisor rate gap is sure) ∙ ap (λ n. pos (scale * n / divisor)) g ∙ sym (component-up scale from to divisor up)
 
 -- and downwards
-pub component-shared-down : (scale from to divisor rate gap unit slack : ℕ) → to ≤ from → gap ≡ abs_diff from to → IsRate scale divisor unit slack rate
-    → rate * gap % unit + slack * gap ≤ unit → 0 < unit → neg_ℤ (pos (rate * gap / unit)) ≡ component scale from to divisor
-component-shared-down scale from to divisor rate gap unit slack down is_gap is sure some =
+pub component-shared-down : (scale from to divisor rate gap : ℕ) → to ≤ from → gap ≡ abs_diff from to → IsRate scale divisor rate
+    → rate * gap % 2 ^ 32 + 2 * gap ≤ 2 ^ 32 → neg_ℤ (pos (rate * gap / 2 ^ 32)) ≡ component scale from to divisor
+component-shared-down scale from to divisor rate gap down is_gap is sure =
     let g : gap ≡ from - to = omega arith in
-    ap (λ n. neg_ℤ (pos n)) (share-is scale divisor rate gap unit slack is sure some) ∙ ap (λ n. neg_ℤ (pos (scale * n / divisor))) g
+    ap (λ n. neg_ℤ (pos n)) (share-is scale divisor rate gap is sure) ∙ ap (λ n. neg_ℤ (pos (scale * n / divisor))) g
     ∙ sym (component-down scale from to divisor down)
 
 -- a number with a short root
@@ -84,25 +80,20 @@ gap-below : (n r gap : ℕ) → gap * gap ≤ n → n < (r + 1) * (r + 1) → ga
 gap-below n r gap low next =
     elim (cases_lt r gap) [ inl longer ↦ absurd (omega (arith, mul-le (r + 1) (r + 1) gap gap (omega arith) (omega arith))) | inr le ↦ le ]
 
--- so the product of a rate and a gap is short where that of the rate and the root is
-product_fits : (scale r2 r rate gap unit slack : ℕ) → IsRate scale (r2 * r) unit slack rate → scale * unit < r2 * 2 ^ 63 → gap * gap ≤ r2
-    → r2 < (r + 1) * (r + 1) → rate * gap < 2 ^ 63
-product_fits scale r2 r rate gap unit slack is short low next =
-    let most : rate * r < 2 ^ 63 = factor-out (rate * r) (2 ^ 63) r2 (omega (arith, is.low, mul_right_comm rate r r2)) in
-    omega (arith, mul-le rate gap rate r (omega arith) (gap-below r2 r gap low next))
-
--- along all three axes
+-- products of a rate and the gaps along all three axes are short
 pub record ProductsFit (rate : ℕ) (s t : Site) : Type 0 where
   pub x : rate * abs_diff s.x t.x < 2 ^ 63
   pub y : rate * abs_diff s.y t.y < 2 ^ 63
   pub z : rate * abs_diff s.z t.z < 2 ^ 63
 
-pub products_fit : (scale r2 r rate unit slack : ℕ) (s t : Site) → IsRate scale (r2 * r) unit slack rate → scale * unit < r2 * 2 ^ 63
-    → squared_distance s t ≤ r2 → r2 < (r + 1) * (r + 1) → ProductsFit rate s t
-products_fit scale r2 r rate unit slack s t is short near next =
+-- where that of the rate and the root is
+pub products_fit : (scale r2 r rate : ℕ) (s t : Site) → IsRate scale (r2 * r) rate → scale * 2 ^ 32 < r2 * 2 ^ 63 → squared_distance s t ≤ r2
+    → r2 < (r + 1) * (r + 1) → ProductsFit rate s t
+products_fit scale r2 r rate s t is short near next =
     let parts = squared_distance-parts s t in
+    let most : rate * r < 2 ^ 63 = factor-out (rate * r) (2 ^ 63) r2 (omega (arith, is.low, mul_right_comm rate r r2)) in
     let fits : (gap : ℕ) → gap * gap ≤ squared_distance s t → rate * gap < 2 ^ 63 =
-    λ gap within. product_fits scale r2 r rate gap unit slack is short (omega (arith, within, near)) next in
+    λ gap within. omega (arith, mul-le rate gap rate r (omega arith) (gap-below r2 r gap (omega (arith, within, near)) next)) in
     record {
       x = fits (abs_diff s.x t.x) (omega (arith, parts));
       y = fits (abs_diff s.y t.y) (omega (arith, parts));

@@ -8,11 +8,11 @@ use Rattle.force_walk.specs.declared.short_pull.ShortPull.{ShortPull}
 abbrev pub pull_of : ShortPull → Pull
 pull_of p = record { ax = p.ax; ay = p.ay; az = p.az; met = p.met }
 
--- the rate of a scale and a divisor, in parts of which a unit has so many, is so much or less than some parts more: the slack
-pub record IsRate (scale divisor unit slack rate : ℕ) : Type 0 where
+-- the rate of a scale and a divisor, in parts of 2^-32, is so much or less than two parts more
+pub record IsRate (scale divisor rate : ℕ) : Type 0 where
   pub positive : 0 < divisor
-  pub low : rate * divisor ≤ scale * unit
-  pub high : scale * unit < rate * divisor + slack * divisor
+  pub low : rate * divisor ≤ scale * 2 ^ 32
+  pub high : scale * 2 ^ 32 < rate * divisor + 2 * divisor
 
 -- the sum of a walk, of which some terms come short and the others wide
 abbrev pub sum_of : ShortPull → Pull → Pull

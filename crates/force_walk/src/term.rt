@@ -200,7 +200,7 @@ fn share_of(rate: u64, from: u32, to: u32) -> Option<i64>
     requires from_fits { from < 2 ^ 21 }
     requires to_fits { to < 2 ^ 21 }
     requires small { rate * abs_diff from to < 2 ^ 63 }
-    ensures value { (scale divisor : ℕ) → IsRate scale divisor (2 ^ 32) 2 rate → IfSome result (λ s. s ≡ component scale from to divisor) }
+    ensures value { (scale divisor : ℕ) → IsRate scale divisor rate → IfSome result (λ s. s ≡ component scale from to divisor) }
     ensures small { IfSome result (λ s. IsWithin (2 ^ 31) s) }
 {
     let gap = i64::from(to) - i64::from(from);

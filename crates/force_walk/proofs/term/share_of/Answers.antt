@@ -1,7 +1,6 @@
 use Rattle.std.proofs.Common.{ℕ, ◌≡◌, ◌*◌, ◌/◌, ◌^◌, ◌<◌, ◌≤◌, pos, neg_ℤ, arith, inl, inr, refl, subst, sym, ◌∙◌}
 use Rattle.std.proofs.lemmas.Bool.{cases_lt}
 use Rattle.std.proofs.lemmas.Int.{ints}
-use Rattle.std.proofs.lemmas.Nat.{mul-lt}
 use Rattle.bh_model.specs.Pulls.{IsWithin}
 use Rattle.force_walk.proofs.Quotients.{component-shared-down, component-shared-up, short_stays}
 use Rattle.force_walk.proofs.term.share_of.Goals.{After-share}
@@ -41,12 +40,12 @@ returns-then-is_sure-clause-value c =
     ∙ (elim (cases_lt c.args.to c.args.from) [
       | inl down ↦
           share_down c down
-          ∙ component-shared-down scale c.args.from c.args.to divisor c.args.rate c.from-size.result (2 ^ 32) 2 (omega arith)
-          (c.from-size.ensures ∙ c.abs_diff.ensures) rate (omega (arith, sure)) (omega arith)
+          ∙ component-shared-down scale c.args.from c.args.to divisor c.args.rate c.from-size.result (omega arith)
+          (c.from-size.ensures ∙ c.abs_diff.ensures) rate (omega (arith, sure))
       | inr up ↦
           share_up c up
-          ∙ component-shared-up scale c.args.from c.args.to divisor c.args.rate c.from-size.result (2 ^ 32) 2 up (c.from-size.ensures ∙ c.abs_diff.ensures)
-          rate (omega (arith, sure)) (omega arith)
+          ∙ component-shared-up scale c.args.from c.args.to divisor c.args.rate c.from-size.result up (c.from-size.ensures ∙ c.abs_diff.ensures)
+          rate (omega (arith, sure))
     ])
 
 pub returns-then-is_sure-clause-small : goal.returns-then-is_sure-clause-small

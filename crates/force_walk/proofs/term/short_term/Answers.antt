@@ -1,4 +1,4 @@
-use Rattle.std.proofs.Common.{◌*◌, ◌%◌, ◌^◌, ℕ, ℤ, arith, refl, subst, sym, ◌∙◌}
+use Rattle.std.proofs.Common.{◌*◌, ◌^◌, ℤ, arith, refl, subst, sym, ◌∙◌}
 use Rattle.std.specs.Int.{w64}
 use mir.Val.{to_z, of_z}
 use Rattle.bh_model.specs.Pulls.{IsWithin}
@@ -19,7 +19,7 @@ pub divisor_of-requires-clause-root_value : goal.divisor_of-requires-clause-root
 divisor_of-requires-clause-root_value c = tested_root _ _ (c.if-not-is_root.ensures refl)
 
 -- the guess is a rate
-is_rate : (c : After-from) → IsRate (c.args.law.now.g * c.args.mass) c.divisor_of.result (2 ^ 32) 2 c.guess_of-guess.result.rate
+is_rate : (c : After-from) → IsRate (c.args.law.now.g * c.args.mass) c.divisor_of.result c.guess_of-guess.result.rate
 is_rate c =
     let rate = c.if-not-is_rate.ensures refl in
     record {
@@ -34,8 +34,8 @@ fits : (c : After-to) → ProductsFit c.guess_of-guess.result.rate
     (record { x = c.to.inside.x; y = c.to.inside.y; z = c.to.inside.z })
 fits c =
     let b = (goal.at.share_of-requires-clause-small c).After-from in
-    products_fit (c.args.law.now.g * c.args.mass) c.softened-r2.result c.guess_of-guess.result.root c.guess_of-guess.result.rate (2 ^ 32) 2 _ _
-    (subst (λ d. IsRate (c.args.law.now.g * c.args.mass) d (2 ^ 32) 2 c.guess_of-guess.result.rate) c.divisor_of.ensures.value (is_rate b))
+    products_fit (c.args.law.now.g * c.args.mass) c.softened-r2.result c.guess_of-guess.result.root c.guess_of-guess.result.rate _ _
+    (subst (λ d. IsRate (c.args.law.now.g * c.args.mass) d c.guess_of-guess.result.rate) c.divisor_of.ensures.value (is_rate b))
     (omega (arith, c.if-not-is_below_words.ensures refl, c.whole_of-whole.ensures.value))
     (omega (arith, seen_distance c.args.d2 _ _ _ _ c.from.view_is c.to.view_is c.requires.distance, c.softened-r2.ensures.value))
     (c.if-not-is_root.ensures refl).1
