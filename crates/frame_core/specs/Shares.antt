@@ -1,10 +1,11 @@
 -- The shares in which the workers build a tree.
-use Rattle.std.specs.Prelude.{ℕ, ◌*◌, ◌/◌, List, filter, map, nat_eq}
+use Rattle.std.specs.Prelude.{ℕ, ◌*◌, ◌/◌, List, map}
 use Rattle.bh_model.specs.Bodies.{numbers}
+use Rattle.orig_build.specs.Shares.{owned}
 
 -- the share of a worker before the first frame, of the first of so many bodies: body n is in share n * workers / count, rounded down
 abbrev pub share_below : (below workers count w : ℕ) → List ℕ
-share_below below workers count w = filter (λ n. nat_eq (n * workers / count) w) (numbers below)
+share_below below workers count w = owned (λ n. n * workers / count) (numbers below) w
 
 -- the shares before the first frame: each body is in one
 abbrev pub first_shares : (workers count : ℕ) → List (List ℕ)
