@@ -25,18 +25,26 @@ pub record IsBuilt (sites : List Site) (list : List ℕ) (o : Stored) (i : ℕ) 
   pub base : o.base ≡ 1
   pub used : o.used ≤ 21 * i
 
+-- an octree with no body is canonical
+pub empty_canonical : (sites : List Site) (o : Stored) → at_of o.words 0 ≡ 0 → IsCanonical sites o
+empty_canonical sites o e =
+    let none : (m : ℕ) → HasBody o.words m → ⊥ = λ m r. omega (arith, reached_blank (at_of o.words) (at_of o.words 0) (body_word m) e r) in
+    record {
+      under = λ key n r. absurd (none n (forget (at_of o.words) (at_of o.words 0) o.base key (body_word n) r));
+      bodies_in = λ n r. absurd (none n r);
+    }
+
 -- the empty octree holds none
 pub built_none : (sites : List Site) (list : List ℕ) (o : Stored) → HasEachOnce (length sites) list → at_of o.words 0 ≡ 0 → o.base ≡ 1 → o.used ≡ 0
     → IsBuilt sites list o 0
 built_none sites list o each e b u =
-    let none : (m : ℕ) → HasBody o.words m → ⊥ = λ m r. omega (arith, reached_blank (at_of o.words) (at_of o.words 0) (body_word m) e r) in
     record {
       each = each;
-      canonical = record {
-        under = λ key n r. absurd (none n (forget (at_of o.words) (at_of o.words 0) o.base key (body_word n) r));
-        bodies_in = λ n r. absurd (none n r);
-      };
-      bodies = λ m. ((λ r. absurd (none m r)), (λ f. absurd (omega (arith, f.1))));
+      canonical = empty_canonical sites o e;
+      bodies = λ m. (
+        (λ r. absurd (omega (arith, reached_blank (at_of o.words) (at_of o.words 0) (body_word m) e r))),
+        (λ f. absurd (omega (arith, f.1))),
+      );
       base = b;
       used = omega arith;
     }

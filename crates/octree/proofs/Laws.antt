@@ -12,6 +12,10 @@ pub use Rattle.octree.proofs.Subtrees.{bodies_of_tree, child_height, child_octre
 -- nothing is read below an empty root word, and the whole cube is of level 0
 pub use Rattle.octree.proofs.ReadWords.{reached_blank}
 pub use Rattle.octree.proofs.WholeWords.{whole_level}
+-- lists that rise
+pub use Rattle.octree.proofs.FreeCells.{rising_once}
+-- an octree with no body
+pub use Rattle.octree.proofs.Builds.{empty_canonical}
 -- two bodies in one cube
 pub use Rattle.octree.proofs.Chains.{octant_under, pair_cube, pair_deeper}
 
