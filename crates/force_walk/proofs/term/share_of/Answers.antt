@@ -35,7 +35,7 @@ small c =
 pub returns-then-is_sure-clause-value : goal.returns-then-is_sure-clause-value
 returns-then-is_sure-clause-value c =
     λ scale divisor rate.
-    let sure = c.if-is_sure.ensures.sure refl in
+    let sure = c.if-is_sure.ensures refl in
     short_stays _ (small c)
     ∙ (elim (cases_lt c.args.to c.args.from) [
       | inl down ↦
