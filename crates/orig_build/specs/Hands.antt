@@ -1,5 +1,6 @@
 -- What workers need and leave.
 use Rattle.std.specs.Prelude.{ℕ, ◌≡◌, ◌+◌, ◌<◌, List, [], ◌++◌, length, map, slice_index_or}
+use Rattle.bh_model.specs.Bodies.{numbers}
 use Rattle.tree_passes.specs.Counting.{all_of, sum_of, times}
 use Rattle.locked_tree.specs.Seen.{IsOf, PassState, SharedTree}
 use Rattle.orig_build.specs.declared.hands.Hand.{Hand}
@@ -30,6 +31,10 @@ pub record IsSpent (t : SharedTree) (h : Hand) : Type 0 where
 -- the workers' shares are these
 abbrev pub AreDealt : List (List ℕ) → List Hand → Type 0
 AreDealt shares hands = map (λ h. h.share.now) hands ≡ shares
+
+-- the workers are so many, and their numbers are from 0 on
+abbrev pub AreNumbered : ℕ → List Hand → Type 0
+AreNumbered count hands = map (λ h. h.worker) hands ≡ numbers count
 
 -- a pass that has taken in those of the workers
 abbrev pub joined_with : PassState → List Hand → PassState

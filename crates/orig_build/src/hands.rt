@@ -3,7 +3,7 @@
 ghost use Rattle.std.specs.Prelude.{◌≡◌, ℕ, [], ◌+◌, ◌<◌, ◌≤◌, ◌++◌, All, length, map, IfOk, OnOk};
 ghost use Rattle.tree_passes.specs.Counting.{all_of, sum_of, times};
 ghost use Rattle.locked_tree.specs.Seen.{IsOf};
-ghost use Rattle.orig_build.specs.Hands.{joined_with, AreDealt, EachIsDone, IsDone, IsReady, IsSpent};
+ghost use Rattle.orig_build.specs.Hands.{joined_with, AreDealt, AreNumbered, EachIsDone, IsDone, IsReady, IsSpent};
 
 use build_gate::{Gate, GatePoint};
 use locked_tree::{LockedPass, LockedTree};
@@ -36,6 +36,7 @@ pub fn deal_hands<'a>(
     requires parted { (x : ℕ) → times x pass.old.todo ≡ sum_of (λ s. times x s.items) shares.now }
     ensures ready { IfOk result (λ v. All (IsReady tree.now) v.items) }
     ensures shares { IfOk result (λ v. AreDealt (map (λ s. s.items) shares.now) v.items) }
+    ensures workers { IfOk result (λ v. AreNumbered (length shares.now) v.items) }
     ensures pass { OnOk result (pass.new ≡ record pass.old { todo = [] }) }
 {
     let mut hands = Vec::with_capacity(alloc, shares.len())?;

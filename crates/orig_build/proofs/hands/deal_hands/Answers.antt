@@ -1,13 +1,27 @@
-use Rattle.std.proofs.Common.{◌≡◌, ◌≤◌, ℕ, List, [], sym, subst, ◌∙◌, ap, arith}
-use Rattle.std.proofs.lemmas.List.{drop_all}
+use Rattle.std.proofs.Common.{◌≡◌, ◌≤◌, ◌++◌, ℕ, List, [], ◌∷◌, length, map, refl, sym, subst, ◌∙◌, ap, arith}
+use Rattle.std.proofs.lemmas.List.{drop_all, map-append}
 use Rattle.std.proofs.lemmas.List.Elements.{All-push}
 use Rattle.std.specs.Prelude.{All}
+use Rattle.bh_model.specs.Bodies.{numbers}
 use Rattle.tree_passes.specs.Counting.{sum_of, times, without_all}
 use Rattle.tree_passes.proofs.Laws.{none_in, times-without_all}
 use Rattle.locked_tree.specs.Seen.{PassState}
+use Rattle.orig_build.specs.declared.hands.Hand.{Hand}
 use Rattle.orig_build.specs.Hands.{IsReady}
+use Rattle.orig_build.proofs.Laws.{numbers_more}
 use Rattle.orig_build.proofs.Dealing.{dealt_more, left_less, todo_alone}
 use Rattle.orig_build.proofs.hands.deal_hands.Goals as goal
+
+pub loop-w-init : goal.loop-w-init
+unfolding numbers
+loop-w-init c =
+    let none = c.in_ok-hands.ensures.items in (
+      subst (All (IsReady c.args.tree.now)) (sym none) (λ k d l. absurd (omega arith)),
+      ap (map (λ (h : Hand). h.share.now)) none,
+      refl,
+      c.requires.parted,
+      ap (map (λ (h : Hand). h.worker)) none,
+    )
 
 pub loop-w-preserved : goal.loop-w-preserved
 loop-w-preserved c =
@@ -42,7 +56,14 @@ loop-w-preserved c =
           let t = times-without_all part c.loop-w.pass.todo among x in
           let k = ap (λ (z : PassState). times x z.todo) kept in
           omega arith),
+      ap (map (λ (h : Hand). h.worker)) more ∙ map-append (λ (h : Hand). h.worker) c.loop-w.hands.items (_ ∷ [])
+          ∙ ap (λ (z : List ℕ). z ++ (w ∷ [])) i.4 ∙ numbers_more w,
     )
+
+pub returns-clause-workers : goal.returns-clause-workers
+returns-clause-workers c =
+    let all : c.loop-w.w ≡ length c.args.shares.now = omega arith in
+    c.loop-w.invariant.4 ∙ ap numbers all
 
 pub returns-clause-pass : goal.returns-clause-pass
 returns-clause-pass c =

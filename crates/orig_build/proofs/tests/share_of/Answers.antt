@@ -1,6 +1,5 @@
-use Rattle.std.proofs.Common.{◌≡◌, ◌%◌, ◌++◌, ℕ, List, [], ◌∷◌, ap, ◌∙◌, sym}
+use Rattle.std.proofs.Common.{◌%◌, ◌++◌, ℕ, List, [], ◌∷◌, ap, ◌∙◌}
 use Rattle.bh_model.specs.Bodies.{numbers}
-use Rattle.orig_build.specs.Shares.{owned}
 use Rattle.orig_build.proofs.Laws.{owned_more, owned_no_more}
 use Rattle.orig_build.proofs.tests.share_of.Goals.{then-n-workers+in_ok-push, else-n-workers}
 use Rattle.orig_build.proofs.tests.share_of.Goals as goal
