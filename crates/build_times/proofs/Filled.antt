@@ -3,8 +3,7 @@ use Rattle.std.proofs.Common.{ℕ, ◌+◌, ◌*◌, ◌<◌, ◌≤◌, ◌≡�
 use Rattle.octant_code.specs.Space.{IsUnder, Site}
 use Rattle.octant_code.proofs.Keys.{key-zero}
 use Rattle.octree.specs.Stored.{IsCanonical, IsInserted, Stored}
-use Rattle.octree.proofs.Laws.{reached_blank}
-use Rattle.orig_build.proofs.Laws.{empty_canonical}
+use Rattle.octree.proofs.Laws.{empty_canonical, reached_blank}
 use Rattle.tree_rule.specs.Words.{HasBody, at_of, body_word}
 
 -- The octree of the whole cube holds bodies below a number, and has room for all.

@@ -20,22 +20,6 @@ pub reached_blank : (at : ℕ → ℕ) (top w : ℕ) → top ≡ 0 → IsReached
 reached_blank at top _ e (Here w f) = f ∙ e
 reached_blank at top _ e (Below c k w r l f) = absurd (omega (arith, reached_blank at top (cell_word c) e r))
 
--- an octree with no body is canonical
-pub empty_canonical : (sites : List Site) (o : Stored) → at_of o.words 0 ≡ 0 → IsCanonical sites o
-empty_canonical sites o e =
-    let none : (n : ℕ) → HasBody o.words n → ⊥ = λ n r. omega (arith, reached_blank (at_of o.words) (at_of o.words 0) (body_word n) e r) in
-    record {
-      under = λ key n r. absurd (none n (forget (at_of o.words) (at_of o.words 0) o.base key (body_word n) r));
-      bodies_in = λ n r. absurd (none n r);
-    }
-
--- the whole cube is of level 0
-whole_level : (o : Stored) → IsStored o → o.base ≡ 1 → o.level ≡ 0
-whole_level o h one = elim (cases_lt o.level 1) [
-  | inl l ↦ omega arith
-  | inr l ↦ absurd (omega (arith, h.base_low, pow8-mono 1 o.level l))
-]
-
 -- where the numbers of all points were put in, the octree is that of all points
 pub octree_put : (sites : List Site) (o : Opening) (done seen : List ℕ) (t : Stored) → o.sites ≡ sites → IsTreeAtEnd o done seen t
     → at_of o.words 0 ≡ 0 → ((x : ℕ) → times x done ≡ times x (numbers (length sites))) → IsStored t

@@ -12,7 +12,6 @@ use Rattle.tree_passes.proofs.Laws.{same-eq, same-ne, sum_of-map}
 use Rattle.orig_build.specs.Shares.{owned, AreShares}
 use Rattle.orig_build.proofs.Sharing.{each_of_numbers}
 -- how a tree begins
-pub use Rattle.locked_tree.proofs.Laws.{empty_canonical}
 
 -- which is the worker's, or is not
 module _ (own : ℕ → ℕ) (n w : ℕ) where

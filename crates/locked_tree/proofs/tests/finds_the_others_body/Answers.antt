@@ -1,5 +1,5 @@
 use Rattle.std.specs.Arc.{arc_value}
-use Rattle.locked_tree.proofs.Whole.{empty_canonical}
+use Rattle.octree.proofs.Laws.{empty_canonical}
 use Rattle.locked_tree.proofs.tests.finds_the_others_body.Goals as goal
 
 pub open-requires-clause-canonical : goal.open-requires-clause-canonical

@@ -7,7 +7,8 @@ use Rattle.bh_model.proofs.Standing.{length_numbers}
 use Rattle.octree.specs.Stored.{IsOctreeOf}
 use Rattle.tree_passes.specs.Counting.{times}
 use Rattle.tree_passes.proofs.Laws.{length-same, sum_of-map}
-use Rattle.locked_tree.proofs.Laws.{empty_canonical, octree_put}
+use Rattle.octree.proofs.Laws.{empty_canonical}
+use Rattle.locked_tree.proofs.Laws.{octree_put}
 use Rattle.locked_tree.specs.Seen.{risen, PassState, YardCounts}
 use Rattle.orig_build.specs.declared.hands.Hand.{Hand}
 use Rattle.orig_build.specs.Hands.{EachIsDone}
