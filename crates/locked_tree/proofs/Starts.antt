@@ -1,15 +1,20 @@
 -- The words and the cells that a tree is opened with.
-use Rattle.std.proofs.Common.{◌≡◌, ℕ, zero, suc, ◌+◌, ◌-◌, ◌<◌, ◌≤◌, List, [], ◌∷◌, ◌++◌, length, take, replicate, refl, sym, ap, subst, ◌∙◌, inl, inr, set, arith, get_or-set_other}
+use Rattle.std.proofs.Common.{◌≡◌, ℕ, zero, suc, ◌+◌, ◌-◌, ◌*◌, ◌<◌, ◌≤◌, ◌⊎◌, List, [], ◌∷◌, ◌++◌, length, take, replicate, refl, sym, ap, subst, ◌∙◌, inl, inr, arith}
 use Rattle.std.proofs.lemmas.Bool.{cases_lt}
 use Rattle.std.proofs.lemmas.List.{get_or_past, get_or-replicate, get_or-append_right, get_or_append_left, length-append, length-replicate, take_all}
 use Rattle.octant_code.specs.Space.{Site}
 use Rattle.octant_code.specs.Points.{ArePoints, site_at}
-use Rattle.octant_code.specs.declared.limits.TheConstants.{MOST_BODIES}
 use Rattle.bh_model.specs.Bodies.{IsIn, NoneTwice}
-use Rattle.tree_rule.specs.declared.words.TheConstants.{MOST_CELLS, POOL_PLACE}
+use Rattle.tree_rule.specs.declared.words.TheConstants.{MOST_CELLS, POOL_PLACE, CELLS_OF_ONE}
+use Rattle.bh_model.specs.Trees.{Tree, cell_count, order}
+use Rattle.bh_model.proofs.CellCounts.{cells_by_levels}
+use Rattle.bh_model.proofs.Lists.{in_append, none_twice-append}
 use Rattle.tree_rule.specs.Words.{HasBody, HasCell, IsReached, at_of, body_word, cell_word, lock_place}
+use Rattle.tree_rule.specs.Flat.{StandsFor}
 use Rattle.tree_rule.specs.Sound.{BodiesUnder, IsSound}
-use Rattle.octree.specs.Stored.{AreOctreeWords, IsBlankFrom, IsCanonical, IsStored, Stored, word_count}
+use Rattle.octree.specs.Stored.{AreOctreeWords, IsBlankFrom, IsCanonical, IsStored, Stored, word_count, tree_of}
+use Rattle.tree_rule.proofs.Laws.{few_below, gives_own_order, order_has_none_twice, order_members, stands_of_sound}
+use Rattle.octree.proofs.Laws.{rising_once}
 use Rattle.tree_passes.specs.Counting.{numbers_from}
 use Rattle.tree_passes.specs.Making.{IsReady}
 use Rattle.tree_passes.specs.Opening.{fresh_view}
@@ -17,7 +22,7 @@ use Rattle.tree_passes.specs.Ends.{CanOpen, CanPool}
 use Rattle.tree_passes.proofs.Laws.{once_times, times_in}
 use Rattle.locked_tree.specs.declared.tree.Pool.{Pool}
 use Rattle.locked_tree.specs.declared.tree.Pool.TheVariants as pool
-use Rattle.locked_tree.specs.Ends.{AreStartWords}
+use Rattle.locked_tree.specs.Ends.{AreDealtOut, AreHandedOut, AreStartWords}
 use Rattle.locked_tree.specs.Seen.{HasRoom, HasStock, IsAtRest, spare_of}
 
 numbers_next : (from n : ℕ) → numbers_from from n ++ (from + n) ∷ [] ≡ numbers_from from (suc n)
@@ -104,45 +109,119 @@ start_words_are o words us cells n m rule h same blank long more few is_n is_m e
 start_body : (o : Stored) (words : List ℕ) (cells x : ℕ) → AreStartWords o words cells → HasBody words x → HasBody o.words x
 start_body o words cells x h r = subst (λ (z : ℕ → ℕ). IsReached z (z 0) (body_word x)) (λ k i. h.same i k) r
 
-start_cell : (o : Stored) (words : List ℕ) (cells c : ℕ) → AreStartWords o words cells → HasCell words c → c < o.used
-start_cell o words cells c h r = h.rule.cells_used c (subst (λ (z : ℕ → ℕ). IsReached z (z 0) (cell_word c)) (λ k i. h.same i k) r)
+start_cell : (o : Stored) (words : List ℕ) (cells c : ℕ) → AreStartWords o words cells → HasCell words c → HasCell o.words c
+start_cell o words cells c h r = subst (λ (z : ℕ → ℕ). IsReached z (z 0) (cell_word c)) (λ k i. h.same i k) r
 
--- a start can be opened with numbers of cells past those that it uses
-pub can_open : (sites : List Site) (o : Stored) (words todo held : List ℕ) (cells first count : ℕ) → ArePoints sites → o.base ≡ 1 → IsCanonical sites o
-    → AreStartWords o words cells → NoneTwice todo → ((x : ℕ) → IsIn todo x → x < length sites) → ((x : ℕ) → IsIn todo x → HasBody o.words x → ⊥)
-    → held ≡ numbers_from first count → o.used ≤ first → first + count ≤ cells → CanOpen sites words todo held
-can_open sites o words todo held cells first count points base canon h once within fresh is past room =
-    let numbers : (c : ℕ) → IsIn held c → (first ≤ c) × (c < first + count) = λ c p.
-    in_numbers first count c (subst (λ (z : List ℕ). IsIn z c) is p) in
+-- ---- the cells that are dealt out
+
+-- a start and bodies that are to be put in have at most 21 cells for each of the bodies that there may be
+pub room_of_regions : (sites : List Site) (o : Stored) (todo : List ℕ) → ArePoints sites → IsStored o → o.base ≡ 1 → IsCanonical sites o → NoneTwice todo
+    → ((x : ℕ) → IsIn todo x → x < length sites) → ((x : ℕ) → IsIn todo x → HasBody o.words x → ⊥)
+    → cell_count (tree_of o) + CELLS_OF_ONE * length todo ≤ MOST_CELLS
+room_of_regions sites o todo points rule base canon once within fresh =
+    let site : ℕ → Site = site_at sites in
+    let at : ℕ → ℕ = at_of o.words in
+    let bodies : List ℕ = order (tree_of o) in
+    let stands : StandsFor site at (at 0) 1 (HasCell o.words) (HasBody o.words) =
+    stands_of_sound site at (at 0) 1 (omega arith) (subst (IsSound at (at 0)) base rule.sound) (subst (BodiesUnder site at (at 0)) base canon.under) in
+    let members = order_members site at (at 0) 1 (HasCell o.words) (HasBody o.words) stands in
+    let all : length (bodies ++ todo) ≤ length sites =
+    few_below (length sites) (bodies ++ todo)
+    (none_twice-append bodies todo (order_has_none_twice site at (at 0) 1 (HasCell o.words) (HasBody o.words) stands) once
+    (λ x i j. fresh x j ((members x).1 i)))
+    (λ x i. elim (in_append bodies todo x i) [ inl p ↦ canon.bodies_in x ((members x).1 p) | inr p ↦ within x p ]) in
+    let cells : cell_count (tree_of o) ≤ 21 * length bodies =
+    subst (λ (t : Tree). cell_count t ≤ 21 * length bodies) (sym (gives_own_order site at (HasCell o.words) (HasBody o.words) stands))
+    (cells_by_levels site 21 0 bodies) in
+    omega (arith, all, length-append bodies todo, points.few, cells)
+
+-- What cells that are dealt out are good for: the table has those of the start, the region has others of the table, each once, and there is the stock for so
+-- many bodies.
+pub record Serves (from : Pool) (o : Stored) (bodies : ℕ) (region : List ℕ) (cells first quota : ℕ) : Type 0 where
+  pub more : o.held ≤ cells
+  pub few : cells ≤ MOST_CELLS
+  pub once : NoneTwice region
+  pub bare : (c : ℕ) → IsIn region c → HasCell o.words c → ⊥
+  pub given : (c : ℕ) → IsIn region c → c < first
+  pub sum : cells ≡ first + quota
+  pub start_given : o.held ≤ first
+  pub stock : HasStock from quota (length region) bodies
+
+pub serves : (from : Pool) (o : Stored) (bodies : ℕ) (region : List ℕ) (cells first quota : ℕ) → IsStored o → HasRoom from o.held bodies
+    → cell_count (tree_of o) + CELLS_OF_ONE * bodies ≤ MOST_CELLS → AreDealtOut from o bodies region cells first quota
+    → Serves from o bodies region cells first quota
+serves pool.Shared o bodies region cells first quota rule room regions d = record {
+  more = let a = d.1 in let b = d.2 in omega arith;
+  few = let a = d.1 in let b = d.2 in let e = d.3 in omega arith;
+  once = subst NoneTwice (sym d.0) tt;
+  bare = λ c i r. subst (λ (z : List ℕ). IsIn z c) d.0 i;
+  given = λ c i. absurd (subst (λ (z : List ℕ). IsIn z c) d.0 i);
+  sum = d.1;
+  start_given = let b = d.2 in omega arith;
+  stock = let e = d.3 in omega arith;
+}
+serves pool.Regions o bodies region cells first quota rule room regions d =
+    let h : AreHandedOut o (CELLS_OF_ONE * bodies) region cells = d.0 in
+    let free : List ℕ = h.free in
+    let new : List ℕ = numbers_from o.held (CELLS_OF_ONE * bodies - length free) in
+    let first_is : first ≡ cells = d.1 in
+    let none : quota ≡ 0 = d.2 in
+    let count = h.free_are.count in
+    let sum = h.cells_are in
+    let low : (c : ℕ) → IsIn free c → c < o.held = λ c i. ((h.free_are.each c).0 i).0 in
+    let high : (c : ℕ) → IsIn new c → (o.held ≤ c) × (c < o.held + (CELLS_OF_ONE * bodies - length free)) = λ c i.
+    in_numbers o.held (CELLS_OF_ONE * bodies - length free) c i in
+    let split : (c : ℕ) → IsIn region c → IsIn free c ⊎ IsIn new c = λ c i. in_append free new c (subst (λ (z : List ℕ). IsIn z c) h.region_is i) in
     record {
-      points = points;
-      octree = h.octree;
-      under = subst (λ (z : ℕ → ℕ). BodiesUnder (site_at sites) z (z 0) 1) (λ k i. sym (h.same i) k)
-          (subst (λ (z : ℕ). BodiesUnder (site_at sites) (at_of o.words) (at_of o.words 0) z) base canon.under);
-      start_in = λ x r. canon.bodies_in x (start_body o words cells x h r);
-      todo_once = once;
-      todo_in = within;
-      todo_fresh = λ x p r. fresh x p (start_body o words cells x h r);
-      held_once = subst NoneTwice (sym is) (numbers_once first count);
-      held_fresh = λ c p r. let a = (numbers c p).0 in let b = start_cell o words cells c h r in absurd (omega arith);
-      held_inside = λ c p. let a = (numbers c p).1 in let l = h.long in omega arith;
+      more = omega arith;
+      few = let held = rule.few in omega arith;
+      once = subst NoneTwice (sym h.region_is)
+          (none_twice-append free new (rising_once free h.free_are.rising) (numbers_once o.held (CELLS_OF_ONE * bodies - length free))
+          (λ c i j. let a = low c i in let b = (high c j).0 in omega arith));
+      bare = λ c i r. elim (split c i) [
+        | inl j ↦ ((h.free_are.each c).0 j).1 r
+        | inr j ↦ let a = rule.cells_used c r in let u = rule.used_held in let b = (high c j).0 in omega arith
+      ];
+      given = λ c i. elim (split c i) [ inl j ↦ (let a = low c j in omega arith) | inr j ↦ (let b = (high c j).1 in omega arith) ];
+      sum = omega arith;
+      start_given = omega arith;
+      stock =
+          let l = ap length h.region_is in
+          let m = length-append free new in
+          let n = length-numbers o.held (CELLS_OF_ONE * bodies - length free) in
+          omega arith;
     }
 
-pub can_pool : (o : Stored) (words held : List ℕ) (cells first count pool quota : ℕ) → AreStartWords o words cells → cells ≡ pool + quota
-    → held ≡ numbers_from first count → first + count ≤ pool → o.used ≤ pool → CanPool words held pool quota
-can_pool o words held cells first count pool quota h sum is room used = record {
-  sum = let l = h.long in omega arith;
-  start_given = λ c r. let t = start_cell o words cells c h r in omega arith;
-  held_given = λ c p. let t = (in_numbers first count c (subst (λ (z : List ℕ). IsIn z c) is p)).1 in omega arith;
+-- a start can be opened with the region
+pub can_open : (sites : List Site) (o : Stored) (words todo region : List ℕ) (from : Pool) (bodies cells first quota : ℕ) → ArePoints sites → o.base ≡ 1
+    → IsCanonical sites o → AreStartWords o words cells → NoneTwice todo → ((x : ℕ) → IsIn todo x → x < length sites)
+    → ((x : ℕ) → IsIn todo x → HasBody o.words x → ⊥) → Serves from o bodies region cells first quota → CanOpen sites words todo region
+can_open sites o words todo region from bodies cells first quota points base canon h once within fresh s = record {
+  points = points;
+  octree = h.octree;
+  under = subst (λ (z : ℕ → ℕ). BodiesUnder (site_at sites) z (z 0) 1) (λ k i. sym (h.same i) k)
+      (subst (λ (z : ℕ). BodiesUnder (site_at sites) (at_of o.words) (at_of o.words 0) z) base canon.under);
+  start_in = λ x r. canon.bodies_in x (start_body o words cells x h r);
+  todo_once = once;
+  todo_in = within;
+  todo_fresh = λ x p r. fresh x p (start_body o words cells x h r);
+  held_once = s.once;
+  held_fresh = λ c p r. s.bare c p (start_cell o words cells c h r);
+  held_inside = λ c p. let g = s.given c p in let l = h.long in let t = s.sum in omega arith;
 }
 
--- with the pool word set the rest stays blank
-pub blank_set : (words : List ℕ) (pool used : ℕ) → IsBlankFrom words used → IsBlankFrom (set words POOL_PLACE pool) used
-blank_set words pool used h i l = get_or-set_other words POOL_PLACE i pool 0 (omega arith) ∙ h i l
-
-pub room_few : (from : Pool) (held used bodies : ℕ) → HasRoom from held used bodies → bodies ≤ MOST_BODIES
-room_few pool.Shared held used bodies h = omega arith
-room_few pool.Regions held used bodies h = omega arith
+-- and with the pool word
+pub can_pool : (o : Stored) (words region : List ℕ) (from : Pool) (bodies cells first quota : ℕ) → AreStartWords o words cells
+    → Serves from o bodies region cells first quota → CanPool words region first quota
+can_pool o words region from bodies cells first quota h s = record {
+  sum = let l = h.long in let t = s.sum in omega arith;
+  start_given = λ c r.
+      let t = h.rule.cells_used c (start_cell o words cells c h r) in
+      let u = h.rule.used_held in
+      let v = s.start_given in
+      omega arith;
+  held_given = s.given;
+}
 
 -- the first pass is at rest, and has counted nothing
 pub rest_begun : (sites : List Site) (words todo held : List ℕ) (from : Pool) (quota : ℕ) → CanOpen sites words todo held

@@ -1,24 +1,17 @@
 -- A tree that was opened empty, and closed with all bodies put in.
 use Rattle.std.proofs.Common.{ℕ, ◌-◌, ◌≡◌, ◌↔◌, ◌∙◌, ap, subst, inl, inr, arith, List, length}
-use Rattle.std.proofs.lemmas.Bool.{cases_lt}
 use Rattle.octant_code.specs.Space.{Site}
 use Rattle.octant_code.specs.Points.{site_at}
-use Rattle.octant_code.proofs.Keys.{pow8-mono}
 use Rattle.bh_model.specs.Bodies.{IsIn, NoneTwice, numbers}
 use Rattle.bh_model.specs.Trees.{octree_from, order}
 use Rattle.bh_model.proofs.Lists.{numbers_once}
-use Rattle.tree_rule.proofs.Laws.{forget}
-use Rattle.tree_rule.specs.Words.{at_of, body_word, cell_word, Below, HasBody, Here, IsReached}
+use Rattle.tree_rule.specs.Words.{at_of, body_word, HasBody}
+use Rattle.octree.proofs.Laws.{reached_blank, whole_level}
 use Rattle.octree.specs.Stored.{IsCanonical, IsOctreeOf, IsStored, Stored, tree_of}
 use Rattle.tree_passes.specs.Counting.{times}
 use Rattle.tree_passes.specs.Opening.{Opening}
 use Rattle.tree_passes.proofs.Laws.{in_times, times_in}
 use Rattle.locked_tree.specs.Ends.{IsTreeAtEnd}
-
--- nothing is read below an empty first word
-pub reached_blank : (at : ℕ → ℕ) (top w : ℕ) → top ≡ 0 → IsReached at top w → w ≡ 0
-reached_blank at top _ e (Here w f) = f ∙ e
-reached_blank at top _ e (Below c k w r l f) = absurd (omega (arith, reached_blank at top (cell_word c) e r))
 
 -- where the numbers of all points were put in, the octree is that of all points
 pub octree_put : (sites : List Site) (o : Opening) (done seen : List ℕ) (t : Stored) → o.sites ≡ sites → IsTreeAtEnd o done seen t

@@ -1,10 +1,15 @@
 -- What a tree is opened with, and what it is when it is closed.
-use Rattle.std.specs.Prelude.{ℕ, ◌≡◌, ◌<◌, ◌≤◌, ◌⊎◌, ◌↔◌, List, length}
+use Rattle.std.specs.Prelude.{ℕ, ◌≡◌, ◌+◌, ◌-◌, ◌*◌, ◌<◌, ◌≤◌, ◌⊎◌, ◌↔◌, List, [], ◌++◌, length}
 use Rattle.bh_model.specs.Bodies.{IsIn}
+use Rattle.tree_rule.specs.declared.words.TheConstants.{CELLS_OF_ONE}
 use Rattle.tree_rule.specs.Words.{at_of, child_place, key_place, lock_place, HasBody, HasCell}
+use Rattle.octree.specs.Free.{AreFreeCells}
 use Rattle.octree.specs.Stored.{AreOctreeWords, IsBlankFrom, IsCanonical, IsStored, Stored, word_count}
 use Rattle.tree_passes.specs.declared.view.TheConstants.{ROW_WORDS}
+use Rattle.tree_passes.specs.Counting.{numbers_from}
 use Rattle.tree_passes.specs.Opening.{Opening}
+use Rattle.locked_tree.specs.declared.tree.Pool.{Pool}
+use Rattle.locked_tree.specs.declared.tree.Pool.TheVariants as pool
 
 -- The octree is the canonical one of the start's bodies and those of a list, with each seen body among them, and each cell of the start keeps its
 -- number and its key.
@@ -15,6 +20,21 @@ pub record IsTreeAtEnd (o : Opening) (done seen : List ℕ) (tree : Stored) : Ty
   pub seen_in : (x : ℕ) → IsIn seen x → HasBody tree.words x
   pub cells_stay : (c : ℕ) → HasCell o.words c → HasCell tree.words c
   pub keys_stay : (c : ℕ) → HasCell o.words c → at_of tree.words (key_place c) ≡ at_of o.words (key_place c)
+
+-- The numbers that regions are made of: those of the start's cells that can't be reached, and then new ones until there are so many. The table has the
+-- cells that the start holds, and the new ones.
+pub record AreHandedOut (start : Stored) (count : ℕ) (region : List ℕ) (cells : ℕ) : Type 0 where
+  pub free : List ℕ
+  pub free_are : AreFreeCells start free
+  pub region_is : region ≡ free ++ numbers_from start.held (count - length free)
+  pub cells_are : cells ≡ start.held + (count - length free)
+
+-- How the cells of a table are dealt out for so many bodies: which make the region, how many there are, and where the pool begins that gives out a quota.
+abbrev pub AreDealtOut : Pool → Stored → ℕ → List ℕ → ℕ → ℕ → ℕ → Type 0
+AreDealtOut pool.Shared start bodies region cells first quota =
+    (region ≡ []) × (cells ≡ first + quota) × (first ≡ start.held) × (quota ≡ CELLS_OF_ONE * bodies)
+AreDealtOut pool.Regions start bodies region cells first quota =
+    AreHandedOut start (CELLS_OF_ONE * bodies) region cells × (first ≡ cells) × (quota ≡ 0)
 
 -- The words are those of an octree, and 0 from its used cells on to so many cells.
 pub record AreStartWords (start : Stored) (words : List ℕ) (cells : ℕ) : Type 0 where

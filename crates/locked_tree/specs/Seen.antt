@@ -62,11 +62,10 @@ abbrev pub stock_of : Pool → ℕ → ℕ × ℕ
 stock_of pool.Shared bodies = (0, CELLS_OF_ONE * bodies)
 stock_of pool.Regions bodies = (CELLS_OF_ONE * bodies, 0)
 
--- A start that holds and uses so many cells, and the stock for so many bodies, have room in one table. The shared pool begins behind the cells that the
--- start holds, and regions behind those that it uses.
-abbrev pub HasRoom : Pool → ℕ → ℕ → ℕ → Type 0
-HasRoom pool.Shared held used bodies = held + CELLS_OF_ONE * bodies ≤ MOST_CELLS
-HasRoom pool.Regions held used bodies = used + CELLS_OF_ONE * bodies ≤ MOST_CELLS
+-- With the shared pool the cells that a start holds and the stock for so many bodies have room in one table. With regions they always have.
+abbrev pub HasRoom : Pool → ℕ → ℕ → Type 0
+HasRoom pool.Shared held bodies = held + CELLS_OF_ONE * bodies ≤ MOST_CELLS
+HasRoom pool.Regions held bodies = Unit {0}
 
 -- the cells that an insertion uses: those of a region, or the stock that was drawn from the shared pool
 abbrev pub spare_of : Pool → List ℕ → List ℕ → List ℕ

@@ -1,7 +1,11 @@
-//! Two passes over one tree.
+//! Two passes over one tree, and trees that are opened with regions.
+
+ghost use Rattle.std.specs.Prelude.{◌≡◌, ◌≤◌, IfOk};
+ghost use Rattle.octree.specs.Stored.{root_word};
+ghost use Rattle.tree_rule.specs.declared.words.TheConstants.{MOST_CELLS};
 
 use crate::{LockedYard, Pool};
-use octant_code::{Distinct, Point, Points};
+use octant_code::{Distinct, OutOfMemory, Point, Points};
 use octree::Octree;
 use std::alloc::Global;
 use std::process::Abort;
@@ -47,4 +51,48 @@ fn finds_the_others_body<R: Wait + Abort>(rt: &R, alloc: Global, pool: Pool) -> 
 fn a_pass_finds_what_another_put_in(rt: HostRuntime) -> Result<(), Fail> {
     finds_the_others_body(&rt, rt.alloc(), Pool::Shared)?;
     finds_the_others_body(&rt, rt.alloc(), Pool::Regions)
+}
+
+/// An octree with no body, all of whose cells count as used.
+fn bare(alloc: Global, cells: u32) -> Result<Octree, OutOfMemory>
+    requires { cells ≤ MOST_CELLS }
+    ensures base { IfOk result (λ t. t.base ≡ 1) }
+    ensures empty { IfOk result (λ t. root_word t ≡ 0) }
+{
+    Ok(Octree::of_words(Octree::empty(alloc, cells)?.into_words()))
+}
+
+/// How many cells the octree of two bodies one step apart reaches, and how many it holds, where both are
+/// put into an octree of so many cells.
+fn cells_at_end<R: Wait>(rt: &R, alloc: Global, cells: u32) -> Result<(u32, u32), Fail>
+    requires { cells ≤ MOST_CELLS }
+{
+    let (Some(one), Some(other)) = (Point::new(0, 0, 0), Point::new(0, 0, 1)) else {
+        return Err(Fail::from("a point past the cube"));
+    };
+    let list = [one, other].to_vec(alloc)?;
+    let Distinct::Yes = Points::test(alloc, &list)? else {
+        return Err(Fail::from("two equal points"));
+    };
+    let points = Arc::new(alloc, Points::of(list))?;
+    let mut yard = LockedYard::new();
+    let (tree, mut pass) = yard.open(alloc, &points, bare(alloc, cells)?, &[0, 1], Pool::Regions)?;
+    tree.insert(rt, &mut pass, 0);
+    tree.insert(rt, &mut pass, 1);
+    let end = yard.close(tree, pass);
+    Ok((end.cells(), end.held()))
+}
+
+#[test]
+fn unreachable_cells_are_handed_out_with_regions(rt: HostRuntime) -> Result<(), Fail> {
+    assert_eq!(rt; cells_at_end(&rt, rt.alloc(), 42)?, (21, 42));
+    assert_eq!(rt; cells_at_end(&rt, rt.alloc(), 50)?, (21, 50));
+    Ok(())
+}
+
+#[test]
+fn new_cells_are_handed_out_where_those_are_too_few(rt: HostRuntime) -> Result<(), Fail> {
+    assert_eq!(rt; cells_at_end(&rt, rt.alloc(), 0)?, (21, 42));
+    assert_eq!(rt; cells_at_end(&rt, rt.alloc(), 10)?, (21, 42));
+    Ok(())
 }

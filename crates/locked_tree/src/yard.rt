@@ -1,13 +1,16 @@
 //! Yards: where shared octrees are opened and closed, and what was published is counted.
 
-ghost use Rattle.std.specs.Prelude.{◌≡◌, ℕ, [], ◌+◌, ◌<◌, ◌≤◌, length, IfOk};
+ghost use Rattle.std.specs.Prelude.{◌≡◌, ℕ, [], ◌+◌, ◌*◌, ◌++◌, ◌<◌, ◌≤◌, length, IfOk, OnOk};
 ghost use Rattle.std.specs.Arc.{arc_value};
+ghost use Rattle.octant_code.specs.declared.limits.TheConstants.{MOST_BODIES};
 ghost use Rattle.bh_model.specs.Bodies.{IsIn, NoneTwice};
+ghost use Rattle.bh_model.specs.Trees.{cell_count};
 ghost use Rattle.tree_rule.specs.Words.{at_of, HasBody};
-ghost use Rattle.tree_rule.specs.declared.words.TheConstants.{MOST_CELLS};
-ghost use Rattle.octree.specs.Stored.{IsCanonical};
+ghost use Rattle.tree_rule.specs.declared.words.TheConstants.{CELLS_OF_ONE, MOST_CELLS};
+ghost use Rattle.octree.specs.Stored.{IsBlankFrom, IsCanonical, tree_of, word_count};
 ghost use Rattle.tree_passes.specs.Counting.{numbers_from, times};
-ghost use Rattle.locked_tree.specs.Ends.{AreStartWords, IsTreeAtEnd};
+ghost use Rattle.tree_passes.specs.Ends.{CanOpen, CanPool};
+ghost use Rattle.locked_tree.specs.Ends.{AreDealtOut, AreStartWords, IsTreeAtEnd};
 ghost use Rattle.locked_tree.specs.Seen.{entrusted, risen, HasRoom, HasStock, IsOf};
 
 use crate::copy::close_into;
@@ -40,60 +43,56 @@ impl Model for LockedYard {
 }
 
 // How the cells of a new table are dealt out.
-#[derive(Clone, Copy, Drop)]
+#[derive(Drop)]
 struct Deal {
+    // the cells of the region
+    region: Vec<u32>,
     // how many cells the table has
     cells: u32,
-    // the first cell of the region, and how many it has
-    first: u32,
-    count: u32,
     // the first number that the pool gives out, and how many it may give out
     pool: u64,
     quota: u64,
 }
 
-// The deal for a start that holds and uses so many cells, and so many bodies.
-fn deal_out(pool: Pool, held: u32, used: u32, bodies: usize) -> Deal
-    requires used { used ≤ held }
-    requires held { held ≤ MOST_CELLS }
-    requires room { HasRoom pool held used bodies }
-    ensures cells { (held ≤ result.cells) × (result.cells ≤ MOST_CELLS) × (result.cells ≡ result.pool + result.quota) }
-    ensures region { (used ≤ result.first) × (result.first + result.count ≤ result.pool) }
-    ensures used { used ≤ result.pool }
-    ensures stock { HasStock pool result.quota result.count bodies }
-{
-    let (count, quota) = stock_for(pool, bodies);
-    match pool {
-        Pool::Shared => Deal {
-            cells: held + quota as u32,
-            first: held,
-            count: 0,
-            pool: u64::from(held),
-            quota,
-        },
-        Pool::Regions => {
-            let cells = held.max(used + count as u32);
-            Deal {
-                cells,
-                first: used,
-                count: count as u32,
-                pool: u64::from(cells),
-                quota: 0,
-            }
-        }
-    }
-}
-
-// So many numbers from one on.
-fn numbers(alloc: Global, first: u32, count: u32) -> Result<Vec<u32>, OutOfMemory>
+// Appends so many numbers from one on.
+fn push_numbers(list: &mut Vec<u32>, first: u32, count: u32) -> Result<(), OutOfMemory>
     requires { first + count ≤ MOST_CELLS }
-    ensures { IfOk result (λ v. v.items ≡ numbers_from first count) }
+    ensures { OnOk result (list.new.items ≡ list.old.items ++ numbers_from first count) }
 {
-    let mut list = Vec::with_capacity(alloc, count as usize)?;
     for i in 0..count {
         list.push(first + i)?;
     }
-    Ok(list)
+    Ok(())
+}
+
+// The deal for a start and so many bodies.
+fn deal_out(alloc: Global, pool: Pool, start: &Octree, bodies: usize) -> Result<Deal, OutOfMemory>
+    requires few { bodies ≤ MOST_BODIES }
+    requires room { HasRoom pool start.now.held bodies }
+    requires regions { cell_count (tree_of start.now) + CELLS_OF_ONE * bodies ≤ MOST_CELLS }
+    ensures { IfOk result (λ d. AreDealtOut pool start.now bodies d.region.items d.cells d.pool d.quota) }
+{
+    let (count, quota) = stock_for(pool, bodies);
+    let held = start.held();
+    match pool {
+        Pool::Shared => Ok(Deal {
+            region: Vec::new(alloc),
+            cells: held + quota as u32,
+            pool: u64::from(held),
+            quota,
+        }),
+        Pool::Regions => {
+            let mut region = start.free_cells(alloc)?;
+            let more = count.saturating_sub(region.len()) as u32;
+            push_numbers(&mut region, held, more)?;
+            Ok(Deal {
+                region,
+                cells: held + more,
+                pool: u64::from(held + more),
+                quota,
+            })
+        }
+    }
 }
 
 // The words of a start, with those of so many cells.
@@ -106,6 +105,47 @@ fn start_words(start: Octree, cells: u32) -> Result<Vec<u64>, OutOfMemory>
     let mut words = start.into_words();
     words.resize(place_of_child(cells, 0), 0)?;
     Ok(words)
+}
+
+// The table of these words, and the pass that is entrusted with all bodies and has the region.
+fn open_table(
+    alloc: Global,
+    points: Arc<Points>,
+    mut words: Vec<u64>,
+    fresh: u32,
+    todo: &Vec<u32>,
+    pool: Pool,
+    dealt: Deal,
+) -> Result<(LockedTree, LockedPass), OutOfMemory>
+    requires opens { CanOpen (arc_value points) words.items todo.now.items dealt.region.items }
+    requires pool { CanPool words.items dealt.region.items dealt.pool dealt.quota }
+    requires stock { HasStock pool dealt.quota (length dealt.region.items) (length todo.now.items) }
+    requires fresh { IsBlankFrom words.items fresh × (word_count fresh ≤ length words.items) }
+    ensures opening { IfOk result (λ r. r.0.opening ≡ record { sites = arc_value points; words = words.items; todo = todo.now.items }) }
+    ensures pass { IfOk result (λ r. r.1 ≡ record { table_id = r.0.table_id; points = arc_value points; todo = todo.now.items; done = []; seen = []; changes = 0; loads = 0; last = (0, 0) }) }
+{
+    let Deal {
+        region,
+        pool: first,
+        quota,
+        ..
+    } = dealt;
+    let (table, seat) = open_locked(alloc, &points, &mut words, todo, &region, first, quota)?;
+    let tree = LockedTree {
+        table,
+        points,
+        words,
+        fresh,
+    };
+    let pass = LockedPass {
+        seat,
+        pool,
+        region: Region::of(region),
+        stock: Stock::empty(),
+        published: 0,
+        changes: 0,
+    };
+    Ok((tree, pass))
 }
 
 impl LockedYard {
@@ -136,9 +176,10 @@ impl LockedYard {
     /// Opens a canonical octree, in which each cell keeps its number, and gives the pass that is
     /// entrusted with all bodies that are to be put in.
     ///
-    /// With the shared pool the cells that the start holds and 21 for each body, and with regions the
-    /// cells that it uses and 21 for each body, are together at most 1,376,256. The table takes 80 bytes
-    /// for each of these cells, twice: once for its words, and once for those of the octree at the end.
+    /// With the shared pool the cells that the start holds and 21 for each body are together at most
+    /// 1,376,256. With regions the cells of the start that can't be reached are handed out, and new ones
+    /// until there are 21 for each body. The table takes 80 bytes for each cell that the start holds and
+    /// each new one, twice: once for its words, and once for those of the octree at the end.
     ///
     /// # Errors
     ///
@@ -156,7 +197,7 @@ impl LockedYard {
         requires todo_once { NoneTwice todo.now }
         requires todo_in { (x : ℕ) → IsIn todo.now x → x < length (arc_value points.now) }
         requires todo_fresh { (x : ℕ) → IsIn todo.now x → HasBody start.words x → ⊥ }
-        requires room { HasRoom pool start.held start.used (length todo.now) }
+        requires room { HasRoom pool start.held (length todo.now) }
         ensures yard { self.new ≡ self.old }
         ensures points { IfOk result (λ r. r.0.opening.sites ≡ arc_value points.now) }
         ensures words { IfOk result (λ r. (i : ℕ) → at_of r.0.opening.words i ≡ at_of start.words i) }
@@ -164,37 +205,11 @@ impl LockedYard {
         ensures pass { IfOk result (λ r. r.1 ≡ record { table_id = r.0.table_id; points = arc_value points.now; todo = todo.now; done = []; seen = []; changes = 0; loads = 0; last = (0, 0) }) }
     {
         let _rule = points.len();
-        let used = start.used();
-        let dealt = deal_out(pool, start.held(), used, todo.len());
-        let mut bodies = Vec::with_capacity(alloc, todo.len())?;
-        bodies.extend_from_slice(todo)?;
-        let cells = numbers(alloc, dealt.first, dealt.count)?;
-        let points = points.clone()?;
-        let mut words = start_words(start, dealt.cells)?;
-        let (table, seat) = open_locked(
-            alloc,
-            &points,
-            &mut words,
-            &bodies,
-            &cells,
-            dealt.pool,
-            dealt.quota,
-        )?;
-        let tree = LockedTree {
-            table,
-            points,
-            words,
-            fresh: used,
-        };
-        let pass = LockedPass {
-            seat,
-            pool,
-            region: Region::of(cells),
-            stock: Stock::empty(),
-            published: 0,
-            changes: 0,
-        };
-        Ok((tree, pass))
+        let fresh = start.used();
+        let dealt = deal_out(alloc, pool, &start, todo.len())?;
+        let words = start_words(start, dealt.cells)?;
+        let bodies = todo.to_vec(alloc)?;
+        open_table(alloc, points.clone()?, words, fresh, &bodies, pool, dealt)
     }
 
     /// Closes a tree with a pass that is entrusted with all that the tree was opened with, whatever is

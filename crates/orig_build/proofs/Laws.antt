@@ -11,7 +11,6 @@ use Rattle.tree_passes.specs.Counting.{same, sum_of, times}
 use Rattle.tree_passes.proofs.Laws.{same-eq, same-ne, sum_of-map}
 use Rattle.orig_build.specs.Shares.{owned, AreShares}
 use Rattle.orig_build.proofs.Sharing.{each_of_numbers}
--- how a tree begins
 
 -- which is the worker's, or is not
 module _ (own : ℕ → ℕ) (n w : ℕ) where

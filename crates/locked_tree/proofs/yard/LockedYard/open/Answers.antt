@@ -1,70 +1,61 @@
-use Rattle.std.proofs.Common.{◌≡◌, ◌≤◌, ◌++◌, ℕ, List, length, ap, sym, subst, refl, ◌∙◌, arith}
+use Rattle.std.proofs.Common.{◌≡◌, ℕ, List, length, sym, subst, arith}
 use Rattle.std.specs.Arc.{arc_value}
 use Rattle.octant_code.specs.Space.{Site}
 use Rattle.octant_code.specs.Points.{ArePoints}
-use Rattle.octant_code.specs.declared.limits.TheConstants.{MOST_BODIES}
-use Rattle.bh_model.specs.Bodies.{NoneTwice}
-use Rattle.tree_passes.specs.declared.view.View.{View}
-use Rattle.tree_passes.specs.Opening.{Opening, fresh_view}
+use Rattle.tree_rule.proofs.Laws.{few_below}
+use Rattle.octree.specs.Stored.{IsStored}
 use Rattle.tree_passes.specs.Ends.{CanOpen}
-use Rattle.locked_tree.specs.Seen.{HasStock, IsAtRest, IsCounted, spare_of}
-use Rattle.locked_tree.proofs.Starts.{can_open, can_pool, length-numbers, numbers_once, rest_begun, room_few}
+use Rattle.locked_tree.specs.Seen.{HasStock}
+use Rattle.locked_tree.proofs.Starts.{Serves, can_open, can_pool, room_of_regions, serves}
+use Rattle.locked_tree.proofs.yard.LockedYard.open.Goals.{In_ok-bodies, In_ok-dealt}
 use Rattle.locked_tree.proofs.yard.LockedYard.open.Goals as goal
 
-pub open_locked-requires-clause-octree : goal.open_locked-requires-clause-octree
-open_locked-requires-clause-octree c =
+-- what the cells that are dealt out are good for
+dealt : (c : In_ok-dealt) → Serves c.args.pool c.args.start (length c.args.todo.now) c.in_ok-dealt.dealt.region.items c.in_ok-dealt.dealt.cells
+    c.in_ok-dealt.dealt.pool c.in_ok-dealt.dealt.quota
+dealt c =
     let r = c.requires in
-    let d = c.deal_out-dealt in
-    let sites : c.deref-2.result.now ≡ arc_value c.args.points.now = c.deref-2.ensures ∙ c.in_ok-points.ensures.cases in
-    let bodies : c.extend_from_slice.new.self.items ≡ c.args.todo.now =
-    c.in_ok-extend_from_slice.ensures.items ∙ ap (λ (z : List ℕ). z ++ c.args.todo.now) c.in_ok-bodies.ensures.items in
-    subst (λ (z : List Site × List ℕ). CanOpen z.0 c.in_ok-words.words.items z.1 c.in_ok-cells.cells.items) (λ i. (sym sites i, sym bodies i))
-    (can_open (arc_value c.args.points.now) c.args.start c.in_ok-words.words.items c.args.todo.now c.in_ok-cells.cells.items d.result.cells d.result.first
-    d.result.count (subst ArePoints c.deref.ensures c.len-rule.ensures.rule) r.base r.canonical c.in_ok-words.ensures r.todo_once r.todo_in r.todo_fresh
-    c.in_ok-cells.ensures (omega (arith, d.ensures.region, c.used-used.ensures.value)) (omega (arith, d.ensures.region, d.ensures.cells)))
+    let rule = subst IsStored c.start.view_is c.start.invariant.0 in
+    let points = subst ArePoints c.deref.ensures c.len-rule.ensures.rule in
+    serves c.args.pool c.args.start _ _ _ _ _ rule r.room
+    (room_of_regions (arc_value c.args.points.now) c.args.start c.args.todo.now points rule r.base r.canonical r.todo_once r.todo_in r.todo_fresh)
+    c.in_ok-dealt.ensures
 
-pub open_locked-requires-clause-pool : goal.open_locked-requires-clause-pool
-open_locked-requires-clause-pool c =
-    let d = c.deal_out-dealt in
-    can_pool c.args.start c.in_ok-words.words.items c.in_ok-cells.cells.items d.result.cells d.result.first d.result.count d.result.pool d.result.quota
-    c.in_ok-words.ensures d.ensures.cells.2 c.in_ok-cells.ensures d.ensures.region.1 (omega (arith, d.ensures.used, c.used-used.ensures.value))
+-- the bodies that are to be put in, as they are listed
+listed : (c : In_ok-bodies) → c.in_ok-bodies.bodies.items ≡ c.args.todo.now
+listed c = c.in_ok-bodies.ensures.items_if_clones_equal (λ x y e. e)
 
-pub of-requires : goal.of-requires
-of-requires c =
-    let d = c.deal_out-dealt.result in
-    subst NoneTwice (sym c.in_ok-cells.ensures) (numbers_once d.first d.count)
+pub deal_out-requires-clause-few : goal.deal_out-requires-clause-few
+deal_out-requires-clause-few c =
+    let points = subst ArePoints c.deref.ensures c.len-rule.ensures.rule in
+    omega (arith, few_below (length (arc_value c.args.points.now)) c.args.todo.now c.requires.todo_once c.requires.todo_in, points.few)
 
-pub invariant_of-pass : goal.invariant_of-pass
-invariant_of-pass c =
-    let d = c.deal_out-dealt in
-    let e = c.in_ok-table.ensures in
-    let held = c.in_ok-cells.cells.items in
-    let bodies : c.extend_from_slice.new.self.items ≡ c.args.todo.now =
-    c.in_ok-extend_from_slice.ensures.items ∙ ap (λ (z : List ℕ). z ++ c.args.todo.now) c.in_ok-bodies.ensures.items in
+pub deal_out-requires-clause-regions : goal.deal_out-requires-clause-regions
+deal_out-requires-clause-regions c =
     let r = c.requires in
-    let sites : c.deref-2.result.now ≡ arc_value c.args.points.now = c.deref-2.ensures ∙ c.in_ok-points.ensures.cases in
-    let opens : CanOpen c.deref-2.result.now c.in_ok-words.words.items c.extend_from_slice.new.self.items held =
-    subst (λ (z : List Site × List ℕ). CanOpen z.0 c.in_ok-words.words.items z.1 c.in_ok-cells.cells.items) (λ i. (sym sites i, sym bodies i))
-    (can_open (arc_value c.args.points.now) c.args.start c.in_ok-words.words.items c.args.todo.now held d.result.cells d.result.first
-    d.result.count (subst ArePoints c.deref.ensures c.len-rule.ensures.rule) r.base r.canonical c.in_ok-words.ensures r.todo_once r.todo_in r.todo_fresh
-    c.in_ok-cells.ensures (omega (arith, d.ensures.region, c.used-used.ensures.value)) (omega (arith, d.ensures.region, d.ensures.cells))) in
-    let view : c.in_ok-table.seat.me.0 ≡ fresh_view (record {
-      sites = c.deref-2.result.now;
-      words = c.in_ok-words.words.items;
-      todo = c.extend_from_slice.new.self.items;
-    }) held d.result.quota c.extend_from_slice.new.self.items =
-    ap (λ z. z.0) e.pass.1 ∙ ap (λ (o : Opening). fresh_view o held d.result.quota c.extend_from_slice.new.self.items) e.opening in
-    let words : c.in_ok-table.seat.table_id.words ≡ length c.in_ok-words.words.items = ap (λ z. z.words) e.pass.0 ∙ e.counts.0 in
-    let few : length c.extend_from_slice.new.self.items ≤ MOST_BODIES =
-    subst (λ (z : List ℕ). length z ≤ MOST_BODIES) (sym bodies)
-    (room_few c.args.pool c.args.start.held c.args.start.used (length c.args.todo.now) c.requires.room) in
-    let count : length held ≡ d.result.count = ap length c.in_ok-cells.ensures ∙ length-numbers d.result.first d.result.count in
-    let stock : HasStock c.args.pool d.result.quota (length held) (length c.extend_from_slice.new.self.items) =
-    subst (λ (z : ℕ × List ℕ). HasStock c.args.pool d.result.quota z.0 (length z.1)) (λ i. (sym count i, sym bodies i)) d.ensures.stock in (
-      ap (λ z. z.1) e.pass.1,
-      subst (λ (z : View × ℕ × List ℕ × List ℕ). IsAtRest z.0 z.1 c.args.pool (spare_of c.args.pool z.2 z.3))
-          (λ i. (sym view i, sym words i, sym c.of.ensures.cells i, sym c.empty.ensures i))
-          (rest_begun c.deref-2.result.now c.in_ok-words.words.items c.extend_from_slice.new.self.items held c.args.pool d.result.quota
-          opens stock),
-      subst (λ (z : View). IsCounted z 0 0) (sym view) (record { todo_few = few; bodies = refl; publications = refl }),
-    )
+    room_of_regions (arc_value c.args.points.now) c.args.start c.args.todo.now (subst ArePoints c.deref.ensures c.len-rule.ensures.rule)
+    (subst IsStored c.start.view_is c.start.invariant.0) r.base r.canonical r.todo_once r.todo_in r.todo_fresh
+
+pub start_words-requires-clause-few : goal.start_words-requires-clause-few
+start_words-requires-clause-few c = (dealt (goal.at.start_words-requires-clause-few c).In_ok-dealt).few
+
+pub open_table-requires-clause-opens : goal.open_table-requires-clause-opens
+open_table-requires-clause-opens c =
+    let at = goal.at.open_table-requires-clause-opens c in
+    let r = c.requires in
+    let d = c.in_ok-dealt.dealt in
+    let words = c.in_ok-words.words.items in
+    subst (λ (z : List Site × List ℕ). CanOpen z.0 words z.1 d.region.items) (λ i. (sym c.in_ok-clone.ensures.cases i, sym (listed at.In_ok-bodies) i))
+    (can_open (arc_value c.args.points.now) c.args.start words c.args.todo.now d.region.items c.args.pool _ d.cells d.pool d.quota
+    (subst ArePoints c.deref.ensures c.len-rule.ensures.rule) r.base r.canonical c.in_ok-words.ensures r.todo_once r.todo_in r.todo_fresh
+    (dealt at.In_ok-dealt))
+
+pub open_table-requires-clause-pool : goal.open_table-requires-clause-pool
+open_table-requires-clause-pool c =
+    can_pool c.args.start _ _ c.args.pool _ _ _ _ c.in_ok-words.ensures (dealt (goal.at.open_table-requires-clause-pool c).In_ok-dealt)
+
+pub open_table-requires-clause-stock : goal.open_table-requires-clause-stock
+open_table-requires-clause-stock c =
+    let at = goal.at.open_table-requires-clause-stock c in
+    let d = c.in_ok-dealt.dealt in
+    subst (λ (z : List ℕ). HasStock c.args.pool d.quota (length d.region.items) (length z)) (sym (listed at.In_ok-bodies)) (dealt at.In_ok-dealt).stock
