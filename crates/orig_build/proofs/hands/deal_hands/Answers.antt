@@ -8,7 +8,7 @@ use Rattle.tree_passes.proofs.Laws.{none_in, times-without_all}
 use Rattle.locked_tree.specs.Seen.{PassState}
 use Rattle.orig_build.specs.declared.hands.Hand.{Hand}
 use Rattle.orig_build.specs.Hands.{IsReady}
-use Rattle.orig_build.proofs.Laws.{numbers_more}
+use Rattle.bh_model.proofs.Lists.{numbers_more}
 use Rattle.orig_build.proofs.Dealing.{dealt_more, left_less, todo_alone}
 use Rattle.orig_build.proofs.hands.deal_hands.Goals as goal
 
@@ -57,7 +57,7 @@ loop-w-preserved c =
           let k = ap (λ (z : PassState). times x z.todo) kept in
           omega arith),
       ap (map (λ (h : Hand). h.worker)) more ∙ map-append (λ (h : Hand). h.worker) c.loop-w.hands.items (_ ∷ [])
-          ∙ ap (λ (z : List ℕ). z ++ (w ∷ [])) i.4 ∙ numbers_more w,
+          ∙ ap (λ (z : List ℕ). z ++ (w ∷ [])) i.4 ∙ sym (numbers_more w),
     )
 
 pub returns-clause-workers : goal.returns-clause-workers
