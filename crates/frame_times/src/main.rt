@@ -14,8 +14,10 @@ ghost use Rattle.mass_moments.specs.Kept.{IsCost};
 
 use bh_model::{Builder, Law, Plan};
 use bh_outside::{Input, Sink, StdSink, StdSource, read_all};
+use build_gate::OpenGate;
 use costzones::zones;
 use frame_core::Engine;
+use locked_tree::LockedYard;
 use mass_moments::moments;
 use octant_code::OutOfMemory;
 use octree::Octree;
@@ -23,6 +25,8 @@ use scene_file::{Bodies, MOST_BYTES, read_scene};
 use std::alloc::Global;
 use std::env;
 use std::rt::Clock;
+use std::sync::Wait;
+use std::thread::Threads;
 use std::time::Instant;
 
 /// The least times of the phases so far, in nanoseconds, and the terms of a frame.
@@ -113,24 +117,30 @@ fn time_parts<R: Clock, K: Sink>(
 }
 
 /// Times the frame of a scene's bodies, and tells how many terms the pulls have.
-fn time_frame<R: Clock>(
+fn time_frame<R: Clock + Threads + Wait + Sync>(
     rt: &R,
     alloc: Global,
-    plan: Plan,
+    law: Law,
     bodies: Bodies,
 ) -> anyhow::Result<(u128, u64)> {
+    let plan = Plan {
+        builder: Builder::Orig,
+        workers: 1,
+        law,
+    };
     let mut engine = Engine::open(alloc, plan, bodies)?;
-    engine.tree()?;
+    let mut locked = LockedYard::new();
+    engine.tree(rt, &mut locked, &OpenGate)?;
     let start = Instant::now(rt)?;
     let frame = engine.frame(rt)?;
     Ok((since(rt, start)?, frame.met))
 }
 
 /// Times one round over a scene.
-fn time_round<R: Clock, K: Sink>(
+fn time_round<R: Clock + Threads + Wait + Sync, K: Sink>(
     rt: &R,
     alloc: Global,
-    plan: Plan,
+    law: Law,
     bytes: &[u8],
     sink: &mut K,
 ) -> anyhow::Result<Times> {
@@ -138,7 +148,7 @@ fn time_round<R: Clock, K: Sink>(
     let scene = read_scene(alloc, bytes)?;
     let reading = since(rt, start)?;
     let parts = time_parts(rt, alloc, &scene.bodies, sink)?;
-    let (frame, met) = time_frame(rt, alloc, plan, scene.bodies)?;
+    let (frame, met) = time_frame(rt, alloc, law, scene.bodies)?;
     let pulls = frame.saturating_sub(parts.moments.saturating_add(parts.zones));
     Ok(Times {
         reading,
@@ -149,35 +159,31 @@ fn time_round<R: Clock, K: Sink>(
 }
 
 /// The least times of some rounds over a scene.
-fn times_of<R: Clock, K: Sink>(
+fn times_of<R: Clock + Threads + Wait + Sync, K: Sink>(
     rt: &R,
     alloc: Global,
-    plan: Plan,
+    law: Law,
     rounds: u32,
     bytes: &[u8],
     sink: &mut K,
 ) -> anyhow::Result<Times> {
     let mut least = Times::longest();
     for _ in 0..rounds {
-        least = least.least(time_round(rt, alloc, plan, bytes, sink)?);
+        least = least.least(time_round(rt, alloc, law, bytes, sink)?);
     }
     Ok(least)
 }
 
-/// The plan of one worker with an opening angle, where that is within its limits.
-fn plan_of(theta_num: u32, theta_den: u32) -> Option<Plan> {
+/// The law with an opening angle, where that is within its limits.
+fn law_of(theta_num: u32, theta_den: u32) -> Option<Law> {
     if theta_num > 65_535 || theta_den < 1 || theta_den > 65_535 {
         return None;
     }
-    Some(Plan {
-        builder: Builder::Orig,
-        workers: 1,
-        law: Law {
-            theta_num,
-            theta_den,
-            eps2: 0,
-            g: 4_294_967_296,
-        },
+    Some(Law {
+        theta_num,
+        theta_den,
+        eps2: 0,
+        g: 4_294_967_296,
     })
 }
 
@@ -186,16 +192,34 @@ fn number_of(words: &[String], place: usize) -> Option<u32> {
     words.get(place)?.parse::<u32>().ok()
 }
 
-/// The plan and the rounds that the words ask for.
-fn asked(words: &[String]) -> Option<(Plan, u32)> {
-    let plan = plan_of(number_of(words, 0)?, number_of(words, 1)?)?;
-    Some((plan, number_of(words, 2)?))
+/// The law and the rounds that the words ask for.
+fn asked(words: &[String]) -> Option<(Law, u32)> {
+    let law = law_of(number_of(words, 0)?, number_of(words, 1)?)?;
+    Some((law, number_of(words, 2)?))
+}
+
+/// Tells the times, a line for each.
+fn tell<R: Eprint>(rt: &R, times: &Times) -> anyhow::Result<()> {
+    let lines = [
+        ("reading", times.reading),
+        ("tree", times.tree),
+        ("counts", times.counts),
+        ("text", times.text),
+        ("moments", times.moments),
+        ("zones", times.zones),
+        ("pulls", times.pulls),
+        ("met", u128::from(times.met)),
+    ];
+    for (name, number) in lines {
+        eprintln!(rt; "{name} {number}")?;
+    }
+    Ok(())
 }
 
 fn main(rt: HostRuntime) -> anyhow::Result<()> {
     let alloc = rt.alloc();
     let words: Vec<String> = env::args(&rt)?.skip(1).collect(alloc)?;
-    let Some((plan, rounds)) = asked(&words) else {
+    let Some((law, rounds)) = asked(&words) else {
         return Ok(());
     };
     let mut source = StdSource::new(rt.stdin());
@@ -203,14 +227,6 @@ fn main(rt: HostRuntime) -> anyhow::Result<()> {
         return Ok(());
     };
     let mut sink = StdSink::new(rt.stdout());
-    let times = times_of(&rt, alloc, plan, rounds, &bytes, &mut sink)?;
-    eprintln!(rt; "reading {}", times.reading)?;
-    eprintln!(rt; "tree {}", times.tree)?;
-    eprintln!(rt; "counts {}", times.counts)?;
-    eprintln!(rt; "text {}", times.text)?;
-    eprintln!(rt; "moments {}", times.moments)?;
-    eprintln!(rt; "zones {}", times.zones)?;
-    eprintln!(rt; "pulls {}", times.pulls)?;
-    eprintln!(rt; "met {}", times.met)?;
-    Ok(())
+    let times = times_of(&rt, alloc, law, rounds, &bytes, &mut sink)?;
+    tell(&rt, &times)
 }
