@@ -193,7 +193,7 @@ fn is_rate(whole: u128, divisor: u64, rate: u64) -> bool
 // ---- shares of a rate
 
 /// The share of a rate along the way from a coordinate to another, where up to two parts more of the rate
-/// lead to no other.
+/// lead to no other. That of a rate of 0 is 0 on the way down too, where no product without a rest is sure.
 #[inline]
 fn share_of(rate: u64, from: u32, to: u32) -> Option<i64>
     requires rate_fits { rate < 2 ^ 62 }
@@ -203,8 +203,11 @@ fn share_of(rate: u64, from: u32, to: u32) -> Option<i64>
     ensures value { (scale divisor : ℕ) → IsRate scale divisor rate → IfSome result (λ s. s ≡ component scale from to divisor) }
     ensures small { IfSome result (λ s. IsWithin (2 ^ 31) s) }
 {
+    if rate == 0 {
+        return Some(0);
+    }
     let gap = i64::from(to) - i64::from(from);
-    let part = rate as i64 * gap + (gap >> 63);
+    let part = rate as i64 * gap;
     let size = u64::from(from.abs_diff(to));
     let whole = rate * size;
     if is_sure(part, gap, size, whole) {
@@ -214,16 +217,16 @@ fn share_of(rate: u64, from: u32, to: u32) -> Option<i64>
     }
 }
 
-/// Whether up to two parts more of a rate lead to no other share of it. The product of a rate and a gap,
-/// whose sizes are those of a whole and a size, is lowered by one where the gap is below 0: so rounding it
-/// down, and one more, is rounding the product towards zero.
+/// Whether up to two parts more of a rate lead to no other share of it: the product of a rate and a gap,
+/// whose sizes are those of a whole and a size.
 #[inline]
 fn is_sure(part: i64, gap: i64, size: u64, whole: u64) -> bool
     requires size { size < 2 ^ 21 }
     requires whole { whole < 2 ^ 63 }
     requires up { pos 0 ≤ℤ gap → (gap ≡ pos size) × (part ≡ pos whole) }
-    requires down { gap <ℤ pos 0 → (gap ≡ neg_ℤ (pos size)) × (part ≡ neg_ℤ (pos (whole + 1))) }
-    ensures { IsTrue result → whole % 2 ^ 32 + 2 * size ≤ 2 ^ 32 }
+    requires down { gap <ℤ pos 0 → (gap ≡ neg_ℤ (pos size)) × (part ≡ neg_ℤ (pos whole)) }
+    ensures sure { IsTrue result → whole % 2 ^ 32 + 2 * size ≤ 2 ^ 32 }
+    ensures down { IsTrue result → gap <ℤ pos 0 → 0 < whole % 2 ^ 32 }
 {
     let _whole = whole;
     let _size = size;
@@ -236,7 +239,7 @@ fn share(part: i64, gap: i64, size: u64, whole: u64) -> i64
     requires size { size < 2 ^ 21 }
     requires whole { whole < 2 ^ 63 }
     requires up { pos 0 ≤ℤ gap → (gap ≡ pos size) × (part ≡ pos whole) }
-    requires down { gap <ℤ pos 0 → (gap ≡ neg_ℤ (pos size)) × (part ≡ neg_ℤ (pos (whole + 1))) }
+    requires down { gap <ℤ pos 0 → (gap ≡ neg_ℤ (pos size)) × (part ≡ neg_ℤ (pos whole)) × (0 < whole % 2 ^ 32) }
     ensures up { pos 0 ≤ℤ gap → result ≡ pos (whole / 2 ^ 32) }
     ensures down { gap <ℤ pos 0 → result ≡ neg_ℤ (pos (whole / 2 ^ 32)) }
 {

@@ -1,7 +1,8 @@
-use Rattle.std.proofs.Common.{ℕ, ◌≡◌, ◌*◌, ◌/◌, ◌^◌, ◌<◌, ◌≤◌, pos, neg_ℤ, arith, inl, inr, refl, subst, sym, ◌∙◌}
+use Rattle.std.proofs.Common.{ℕ, ◌≡◌, ◌-◌, ◌*◌, ◌/◌, ◌^◌, ◌<◌, ◌≤◌, pos, neg_ℤ, arith, inl, inr, refl, subst, sym, ◌∙◌}
 use Rattle.std.proofs.lemmas.Bool.{cases_lt}
 use Rattle.std.proofs.lemmas.Int.{ints}
 use Rattle.bh_model.specs.Pulls.{IsWithin}
+use Rattle.force_walk.specs.Short.{IsRate}
 use Rattle.force_walk.proofs.Quotients.{component-shared-down, component-shared-up, short_stays}
 use Rattle.force_walk.proofs.term.share_of.Goals.{After-share}
 use Rattle.force_walk.proofs.term.share_of.Goals as goal
@@ -35,7 +36,7 @@ small c =
 pub returns-then-is_sure-clause-value : goal.returns-then-is_sure-clause-value
 returns-then-is_sure-clause-value c =
     λ scale divisor rate.
-    let sure = c.if-is_sure.ensures refl in
+    let sure = c.if-is_sure.ensures.sure refl in
     short_stays _ (small c)
     ∙ (elim (cases_lt c.args.to c.args.from) [
       | inl down ↦
@@ -50,3 +51,17 @@ returns-then-is_sure-clause-value c =
 
 pub returns-then-is_sure-clause-small : goal.returns-then-is_sure-clause-small
 returns-then-is_sure-clause-small c = subst (IsWithin (2 ^ 31)) (sym (short_stays _ (small c))) (small c)
+
+pub returns-then-rate-eq0-clause-value : goal.returns-then-rate-eq0-clause-value
+returns-then-rate-eq0-clause-value c =
+    λ scale divisor rate.
+    let none : c.args.rate ≡ 0 = omega arith in
+    let is : IsRate scale divisor 0 = subst (IsRate scale divisor) none rate in
+    elim (cases_lt c.args.to c.args.from) [
+      | inl down ↦
+          let none = component-shared-down scale c.args.from c.args.to divisor 0 (c.args.from - c.args.to) (omega arith) (omega arith) is (omega arith) in
+          omega (arith, ints, none)
+      | inr up ↦
+          let none = component-shared-up scale c.args.from c.args.to divisor 0 (c.args.to - c.args.from) up (omega arith) is (omega arith) in
+          omega (arith, ints, none)
+    ]
