@@ -18,9 +18,7 @@ use octant_code::{LEVELS, Point, Points, key_at, octant};
 use std::hint;
 use std::sync::Wait;
 use std::thread::yield_now;
-use tree_passes::{
-    Cube, Pass, Words, load, load_locked, part_two, store_locked, try_lock, unlock,
-};
+use tree_passes::{Cube, Pass, Words, load, load_locked, part_two, store_locked, try_lock, unlock};
 use tree_rule::{
     Named, ROOT_LOCK, named_by, place_of_child, place_of_lock, word_of_body, word_of_cell,
 };

@@ -4,7 +4,9 @@
 use crate::serving::{Ends, run_with};
 use nbody_cli::Status;
 use std::process::Abort;
+use std::sync::Wait;
 use std::test::Fail;
+use std::thread::Threads;
 
 /// Two bodies in two octants, by 32 bytes.
 const SCENE: &[u8] = b"body,1,0,0,0\nbody,1,1048576,0,0\n";
@@ -14,7 +16,7 @@ const TEXT: &[u8] = b"tree (b0...b1...)\n";
 
 /// How the run ends where this read and this write fail, 0 for none, with this room, and what is
 /// written then.
-fn ends_so<R: Abort + AllocGlobal>(
+fn ends_so<R: Abort + AllocGlobal + Threads + Wait + Sync>(
     rt: &R,
     read: u32,
     write: u32,

@@ -5,6 +5,8 @@
 #[cfg(test)]
 mod calls;
 #[cfg(test)]
+mod counts;
+#[cfg(test)]
 mod ends;
 #[cfg(test)]
 mod frames;
@@ -22,5 +24,7 @@ mod serving;
 mod tables;
 #[cfg(test)]
 mod words;
+#[cfg(test)]
+mod workers;
 #[cfg(test)]
 mod zones;

@@ -11,15 +11,19 @@ ghost use Rattle.scene_file.specs.declared.bodies.Body.{Body};
 use crate::made::made_scene;
 use bh_model::{Builder, Law, Plan, Pull};
 use bh_plain::{plain_moment, plain_pull, plain_zone};
+use build_gate::OpenGate;
 use costzones::zones;
 use frame_core::Engine;
+use locked_tree::LockedYard;
 use mass_moments::{Moment, Moments, moments};
 use octant_code::OutOfMemory;
 use octree::{CellNo, Node, Octree};
 use scene_file::{Bodies, read_scene};
 use std::alloc::Global;
 use std::process::Abort;
+use std::sync::Wait;
 use std::test::Fail;
+use std::thread::Threads;
 
 /// The masses of bodies.
 fn masses_of(alloc: Global, bodies: &Bodies) -> Result<Vec<u32>, OutOfMemory>
@@ -55,7 +59,12 @@ fn plain_on(alloc: Global, bodies: &Bodies, law: &Law, n: u32) -> Result<Pull, O
 }
 
 /// Each body's pull and each zone are those of the plain program.
-fn agrees<R: Abort>(rt: &R, alloc: Global, scene: &[u8], law: Law) -> Result<(), Fail> {
+fn agrees<R: Abort + Threads + Wait + Sync>(
+    rt: &R,
+    alloc: Global,
+    scene: &[u8],
+    law: Law,
+) -> Result<(), Fail> {
     let plan = Plan {
         builder: Builder::Orig,
         workers: 3,
@@ -63,7 +72,7 @@ fn agrees<R: Abort>(rt: &R, alloc: Global, scene: &[u8], law: Law) -> Result<(),
     };
     let bodies = read_scene(alloc, scene)?.bodies;
     let mut engine = Engine::open(alloc, plan, read_scene(alloc, scene)?.bodies)?;
-    engine.tree()?;
+    engine.tree(rt, &mut LockedYard::new(), &OpenGate)?;
     let frame = engine.frame(rt)?;
     assert_eq!(rt; frame.bodies, bodies.len());
     for n in 0..frame.bodies {

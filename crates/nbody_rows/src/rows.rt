@@ -1,87 +1,82 @@
 //! Runs that end by themselves: what each writes, and its status.
 
-use crate::serving::{gives, run_with, sure_ends};
+use crate::serving::{gives, run_with, sure_ends, words_of};
 use bh_outside::{MemorySource, SureSink};
+use build_gate::OpenGate;
+use locked_tree::LockedYard;
 use nbody_cli::{Status, serve};
 use std::process::Abort;
+use std::sync::Wait;
 use std::test::Fail;
-
-/// The command `tree` writes this text for a scene.
-fn tree_is<R: Abort + AllocGlobal>(rt: &R, scene: &[u8], text: &[u8]) -> Result<(), Fail> {
-    gives(rt, "tree", scene, Status::Done, text)
-}
+use std::thread::Threads;
 
 #[test]
 fn trees_of_scenes(rt: HostRuntime) -> Result<(), Fail> {
-    // no body
-    tree_is(&rt, b"", b"tree .\n")?;
-    // one body
-    tree_is(&rt, b"body,9,5,6,7\n", b"tree b0\n")?;
-    // two bodies in two octants
-    tree_is(
-        &rt,
-        b"body,1,0,0,0\nbody,1,1048576,0,0\n",
-        b"tree (b0...b1...)\n",
-    )?;
-    // the last record needs no newline
-    tree_is(
-        &rt,
-        b"body,1,0,0,0\nbody,1,1048576,0,0",
-        b"tree (b0...b1...)\n",
-    )?;
-    // two bodies in opposite corners
-    tree_is(
-        &rt,
-        b"body,1,0,0,0\nbody,1,2097151,2097151,2097151\n",
-        b"tree (b0......b1)\n",
-    )?;
-    // two bodies in one deep cell, one step apart in z
-    tree_is(
-        &rt,
-        b"body,1,0,0,0\nbody,1,0,0,1\n",
-        b"tree (((((((((((((((((((((b0b1......).......).......).......).......).......).......).......).......).......).......).......).......).......).......).......).......).......).......).......).......)\n",
-    )?;
-    // a quoted field, a carriage return and an empty line
-    tree_is(
-        &rt,
-        b"\"body\",\"1\",0,0,0\r\n\nbody,1,1048576,0,0\n",
-        b"tree (b0...b1...)\n",
-    )
-}
-
-/// A scene is refused by this line.
-fn is_refused<R: Abort + AllocGlobal>(rt: &R, scene: &[u8], line: &[u8]) -> Result<(), Fail> {
-    gives(rt, "tree", scene, Status::Scene, line)
+    let rows: [(&[u8], &[u8]); 7] = [
+        // no body
+        (b"", b"tree .\n"),
+        // one body
+        (b"body,9,5,6,7\n", b"tree b0\n"),
+        // two bodies in two octants
+        (
+            b"body,1,0,0,0\nbody,1,1048576,0,0\n",
+            b"tree (b0...b1...)\n",
+        ),
+        // the last record needs no newline
+        (b"body,1,0,0,0\nbody,1,1048576,0,0", b"tree (b0...b1...)\n"),
+        // two bodies in opposite corners
+        (
+            b"body,1,0,0,0\nbody,1,2097151,2097151,2097151\n",
+            b"tree (b0......b1)\n",
+        ),
+        // two bodies in one deep cell, one step apart in z
+        (
+            b"body,1,0,0,0\nbody,1,0,0,1\n",
+            b"tree (((((((((((((((((((((b0b1......).......).......).......).......).......).......).......).......).......).......).......).......).......).......).......).......).......).......).......).......)\n",
+        ),
+        // a quoted field, a carriage return and an empty line
+        (
+            b"\"body\",\"1\",0,0,0\r\n\nbody,1,1048576,0,0\n",
+            b"tree (b0...b1...)\n",
+        ),
+    ];
+    for (scene, text) in rows {
+        gives(&rt, "tree", scene, Status::Done, text)?;
+    }
+    Ok(())
 }
 
 #[test]
 fn scenes_that_are_refused(rt: HostRuntime) -> Result<(), Fail> {
-    is_refused(&rt, b"star,1,0,0,0\n", b"refused bad-record 1\n")?;
-    is_refused(&rt, b"body,1,0,0,0,\n", b"refused bad-record 1\n")?;
-    // cut in the middle of a record
-    is_refused(&rt, b"body,1,0,0,0\nbody,1,5", b"refused bad-record 2\n")?;
-    is_refused(&rt, b"body,1,0,x,0\n", b"refused bad-number 1 4\n")?;
-    is_refused(&rt, b"body,+1,0,0,0\n", b"refused bad-number 1 2\n")?;
-    is_refused(&rt, b"body,,0,0,0\n", b"refused bad-number 1 2\n")?;
-    is_refused(&rt, b"body, 1,0,0,0\n", b"refused bad-number 1 2\n")?;
-    // digits are looked for in all fields before any range
-    is_refused(&rt, b"body,0,x,0,0\n", b"refused bad-number 1 3\n")?;
-    is_refused(&rt, b"body,0,0,0,0\n", b"refused out-of-range 1 2\n")?;
-    is_refused(
-        &rt,
-        b"body,1,0,0,0\nbody,1,0,2097152,0\n",
-        b"refused out-of-range 2 4\n",
-    )?;
-    is_refused(
-        &rt,
-        b"body,1,99999999999999999999999999999999999999999999999999,0,0\n",
-        b"refused out-of-range 1 3\n",
-    )?;
-    is_refused(
-        &rt,
-        b"body,1,0,0,0\nbody,1,1,0,0\nbody,1,0,0,0\n",
-        b"refused coincident 3 0 2\n",
-    )
+    let rows: [(&[u8], &[u8]); 12] = [
+        (b"star,1,0,0,0\n", b"refused bad-record 1\n"),
+        (b"body,1,0,0,0,\n", b"refused bad-record 1\n"),
+        // cut in the middle of a record
+        (b"body,1,0,0,0\nbody,1,5", b"refused bad-record 2\n"),
+        (b"body,1,0,x,0\n", b"refused bad-number 1 4\n"),
+        (b"body,+1,0,0,0\n", b"refused bad-number 1 2\n"),
+        (b"body,,0,0,0\n", b"refused bad-number 1 2\n"),
+        (b"body, 1,0,0,0\n", b"refused bad-number 1 2\n"),
+        // digits are looked for in all fields before any range
+        (b"body,0,x,0,0\n", b"refused bad-number 1 3\n"),
+        (b"body,0,0,0,0\n", b"refused out-of-range 1 2\n"),
+        (
+            b"body,1,0,0,0\nbody,1,0,2097152,0\n",
+            b"refused out-of-range 2 4\n",
+        ),
+        (
+            b"body,1,99999999999999999999999999999999999999999999999999,0,0\n",
+            b"refused out-of-range 1 3\n",
+        ),
+        (
+            b"body,1,0,0,0\nbody,1,1,0,0\nbody,1,0,0,0\n",
+            b"refused coincident 3 0 2\n",
+        ),
+    ];
+    for (scene, line) in rows {
+        gives(&rt, "tree", scene, Status::Scene, line)?;
+    }
+    Ok(())
 }
 
 /// The records of so many bodies of one mass, side by side along an axis.
@@ -155,15 +150,24 @@ fn more_than_forty_words_are_read(rt: HostRuntime) -> Result<(), Fail> {
     Ok(())
 }
 
+/// A run of the command `tree` over a scene into a sink that cannot fail ends with `Done`.
+fn is_done<R: Abort + AllocGlobal + Threads + Wait + Sync>(
+    rt: &R,
+    scene: &[u8],
+    sink: &mut SureSink,
+) -> Result<(), Fail> {
+    let alloc = rt.alloc();
+    let words = words_of(alloc, "tree")?;
+    let mut source = MemorySource::new(scene.to_vec(alloc)?, 1, Vec::new(alloc));
+    let mut yard = LockedYard::new();
+    let status = serve(rt, &words, &mut source, sink, &mut yard, &OpenGate);
+    assert_eq!(rt; status, Status::Done);
+    Ok(())
+}
+
 #[test]
 fn a_sink_that_cannot_fail_ends_done(rt: HostRuntime) -> Result<(), Fail> {
-    let alloc = rt.alloc();
-    let words = crate::serving::words_of(alloc, "tree")?;
-    let mut sink = SureSink::new(alloc, 64)?;
-    let mut nothing = MemorySource::new(Vec::new(alloc), 1, Vec::new(alloc));
-    assert_eq!(rt; serve(&rt, &words, &mut nothing, &mut sink), Status::Done);
-    let scene = b"body,1,0,0,0\nbody,1,1048576,0,0\n".to_vec(alloc)?;
-    let mut bodies = MemorySource::new(scene, 1, Vec::new(alloc));
-    assert_eq!(rt; serve(&rt, &words, &mut bodies, &mut sink), Status::Done);
-    Ok(())
+    let mut sink = SureSink::new(rt.alloc(), 64)?;
+    is_done(&rt, b"", &mut sink)?;
+    is_done(&rt, b"body,1,0,0,0\nbody,1,1048576,0,0\n", &mut sink)
 }

@@ -1,10 +1,14 @@
 //! Runs of the top call over sources and sinks of memory.
 
 use bh_outside::{MemorySink, MemorySource};
+use build_gate::{Gate, OpenGate};
+use locked_tree::LockedYard;
 use nbody_cli::{Status, serve};
 use std::alloc::Global;
 use std::process::Abort;
+use std::sync::Wait;
 use std::test::Fail;
+use std::thread::Threads;
 
 /// How the two ends of a run behave: how many bytes a read gives and a write takes at most, the
 /// numbers of the reads and of the writes that fail, and the room of the sink.
@@ -39,25 +43,53 @@ pub fn words_of(alloc: Global, line: &str) -> Result<Vec<String>, Fail> {
     Ok(words)
 }
 
-/// How a run of these words over a scene ends, and what it writes.
-pub fn run_with<R: Abort + AllocGlobal>(
+/// What is seen of a run: how it ended, what it wrote, and how many bodies and how many publications
+/// its yard counts, which counted none before.
+#[derive(Drop)]
+pub struct Ran {
+    pub status: Status,
+    pub text: Vec<u8>,
+    pub published: u64,
+    pub changes: u64,
+}
+
+/// The run of these words over a scene, whose workers pass a gate.
+pub fn run_at<R: Abort + AllocGlobal + Threads + Wait + Sync, G: Gate>(
     rt: &R,
     line: &str,
     scene: &[u8],
     ends: &Ends,
-) -> Result<(Status, Vec<u8>), Fail> {
+    gate: &G,
+) -> Result<Ran, Fail> {
     let alloc = rt.alloc();
     let words = words_of(alloc, line)?;
     let reads = ends.failing_reads.to_vec(alloc)?;
     let writes = ends.failing_writes.to_vec(alloc)?;
     let mut source = MemorySource::new(scene.to_vec(alloc)?, ends.give.max(1), reads);
     let mut sink = MemorySink::new(alloc, ends.room, ends.take.max(1), writes)?;
-    let status = serve(rt, &words, &mut source, &mut sink);
-    Ok((status, sink.bytes().to_vec(alloc)?))
+    let mut yard = LockedYard::new();
+    let status = serve(rt, &words, &mut source, &mut sink, &mut yard, gate);
+    Ok(Ran {
+        status,
+        text: sink.bytes().to_vec(alloc)?,
+        published: yard.published(),
+        changes: yard.changes(),
+    })
+}
+
+/// How a run of these words over a scene ends, and what it writes.
+pub fn run_with<R: Abort + AllocGlobal + Threads + Wait + Sync>(
+    rt: &R,
+    line: &str,
+    scene: &[u8],
+    ends: &Ends,
+) -> Result<(Status, Vec<u8>), Fail> {
+    let ran = run_at(rt, line, scene, ends, &OpenGate)?;
+    Ok((ran.status, ran.text))
 }
 
 /// The run of these words over a scene ends so, and writes just this text.
-pub fn gives<R: Abort + AllocGlobal>(
+pub fn gives<R: Abort + AllocGlobal + Threads + Wait + Sync>(
     rt: &R,
     line: &str,
     scene: &[u8],

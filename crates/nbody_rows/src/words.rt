@@ -40,56 +40,76 @@ fn options_have_their_values_and_defaults(rt: HostRuntime) -> Result<(), Fail> {
 
 #[test]
 fn values_that_break_their_rule_are_refused(rt: HostRuntime) -> Result<(), Fail> {
-    assert!(rt; is_usage(&rt, &["tree", "--workers", "65"])?);
-    assert!(rt; is_usage(&rt, &["tree", "--workers", "0"])?);
-    assert!(rt; is_usage(&rt, &["tree", "--theta", "1"])?);
-    assert!(rt; is_usage(&rt, &["tree", "--theta", "1/0"])?);
-    assert!(rt; is_usage(&rt, &["tree", "--theta", "1/1/1"])?);
-    assert!(rt; is_usage(&rt, &["tree", "--g", "-1"])?);
-    assert!(rt; is_usage(&rt, &["tree", "--probe", "nothing"])?);
-    assert!(rt; is_usage(&rt, &["tree", "--workers==3"])?);
-    assert!(rt; is_usage(&rt, &["walk"])?);
+    let rows: [&[&str]; 9] = [
+        &["tree", "--workers", "65"],
+        &["tree", "--workers", "0"],
+        &["tree", "--theta", "1"],
+        &["tree", "--theta", "1/0"],
+        &["tree", "--theta", "1/1/1"],
+        &["tree", "--g", "-1"],
+        &["tree", "--probe", "nothing"],
+        &["tree", "--workers==3"],
+        &["walk"],
+    ];
+    for words in rows {
+        assert!(rt; is_usage(&rt, words)?);
+    }
     Ok(())
 }
 
 #[test]
 fn words_out_of_the_plain_form_are_refused(rt: HostRuntime) -> Result<(), Fail> {
-    assert!(rt; is_usage(&rt, &[])?);
-    assert!(rt; is_usage(&rt, &["run", "--workers"])?);
-    assert!(rt; is_usage(&rt, &["--help"])?);
-    assert!(rt; is_usage(&rt, &["tree", "--help"])?);
-    assert!(rt; is_usage(&rt, &["--", "tree"])?);
-    assert!(rt; is_usage(&rt, &["tree", "--workers="])?);
-    assert!(rt; is_usage(&rt, &["tree", "--workers", "2", "--workers=2"])?);
-    assert!(rt; is_usage(&rt, &["tree", "--work", "2"])?);
-    assert!(rt; is_usage(&rt, &["tree", "tree"])?);
+    let rows: [&[&str]; 9] = [
+        &[],
+        &["run", "--workers"],
+        &["--help"],
+        &["tree", "--help"],
+        &["--", "tree"],
+        &["tree", "--workers="],
+        &["tree", "--workers", "2", "--workers=2"],
+        &["tree", "--work", "2"],
+        &["tree", "tree"],
+    ];
+    for words in rows {
+        assert!(rt; is_usage(&rt, words)?);
+    }
     Ok(())
 }
 
 #[test]
 fn what_is_not_served_is_refused(rt: HostRuntime) -> Result<(), Fail> {
-    assert!(rt; is_usage(&rt, &["trial"])?);
-    assert!(rt; is_usage(&rt, &["run", "--steps", "2"])?);
-    assert!(rt; !is_usage(&rt, &["run", "--workers", "3"])?);
-    assert!(rt; is_usage(&rt, &["tree", "--builder", "local"])?);
-    assert!(rt; is_usage(&rt, &["tree", "--steps", "2"])?);
-    assert!(rt; is_usage(&rt, &["tree", "--probe", "all"])?);
-    assert!(rt;
-        !is_usage(
-            &rt,
-            &[
-                "tree",
-                "--builder=orig",
-                "--steps",
-                "001",
-                "--probe",
-                "none",
-                "--count",
-                "65536",
-                "--shape",
-                "corner"
-            ]
-        )?
-    );
+    let rows: [&[&str]; 5] = [
+        &["trial"],
+        &["run", "--steps", "2"],
+        &["tree", "--builder", "local"],
+        &["tree", "--steps", "2"],
+        &["tree", "--probe", "all"],
+    ];
+    for words in rows {
+        assert!(rt; is_usage(&rt, words)?);
+    }
+    Ok(())
+}
+
+#[test]
+fn options_that_a_command_does_not_use_are_served(rt: HostRuntime) -> Result<(), Fail> {
+    let rows: [&[&str]; 2] = [
+        &["run", "--workers", "3"],
+        &[
+            "tree",
+            "--builder=orig",
+            "--steps",
+            "001",
+            "--probe",
+            "none",
+            "--count",
+            "65536",
+            "--shape",
+            "corner",
+        ],
+    ];
+    for words in rows {
+        assert!(rt; !is_usage(&rt, words)?);
+    }
     Ok(())
 }

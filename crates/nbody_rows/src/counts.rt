@@ -1,0 +1,67 @@
+//! What a yard counts after runs that end in each way.
+
+use crate::serving::{Ends, run_at, sure_ends};
+use build_gate::OpenGate;
+use nbody_cli::Status;
+use std::process::Abort;
+use std::sync::Wait;
+use std::test::Fail;
+use std::thread::Threads;
+
+/// Two bodies in two octants.
+const PAIR: &[u8] = b"body,1,0,0,0\nbody,1,1048576,0,0\n";
+
+/// The run of these words over a scene ends so, and its yard counts so many bodies, each published
+/// once.
+fn counts<R: Abort + AllocGlobal + Threads + Wait + Sync>(
+    rt: &R,
+    line: &str,
+    scene: &[u8],
+    ends: &Ends,
+    wanted: Status,
+    bodies: u64,
+) -> Result<(), Fail> {
+    let ran = run_at(rt, line, scene, ends, &OpenGate)?;
+    assert_eq!(rt; ran.status, wanted, "{line}");
+    assert_eq!(rt; ran.published, bodies, "{line}");
+    assert_eq!(rt; ran.changes, bodies, "{line}");
+    Ok(())
+}
+
+#[test]
+fn bodies_are_counted_at_the_end(rt: HostRuntime) -> Result<(), Fail> {
+    let rows: [(&str, &[u8], Status, u64); 5] = [
+        ("tree", b"", Status::Done, 0),
+        ("tree", PAIR, Status::Done, 2),
+        ("run --workers 3", PAIR, Status::Done, 2),
+        ("walk", PAIR, Status::Usage, 0),
+        ("tree", b"star\n", Status::Scene, 0),
+    ];
+    for (line, scene, status, bodies) in rows {
+        counts(&rt, line, scene, &sure_ends(1000), status, bodies)?;
+    }
+    Ok(())
+}
+
+#[test]
+fn a_failing_read_counts_no_body(rt: HostRuntime) -> Result<(), Fail> {
+    let broken = Ends {
+        failing_reads: &[2],
+        ..sure_ends(1000)
+    };
+    counts(&rt, "tree", PAIR, &broken, Status::Read, 0)
+}
+
+#[test]
+fn bodies_are_counted_where_a_write_fails(rt: HostRuntime) -> Result<(), Fail> {
+    let rows: [(&str, &[u8], u64); 3] = [
+        // the tree is made before its text is written
+        ("tree", PAIR, 2),
+        ("walk", PAIR, 0),
+        ("tree", b"star\n", 0),
+    ];
+    for (line, scene, bodies) in rows {
+        counts(&rt, line, scene, &sure_ends(10), Status::Write, bodies)?;
+    }
+    Ok(())
+}

@@ -1,0 +1,118 @@
+//! Runs with several workers: what is the same with any number of them, and that they are at work at
+//! the same time.
+
+use crate::serving::{run_at, run_with, sure_ends};
+use build_gate::{MeetGate, OpenGate};
+use nbody_cli::Status;
+use scene_file::{Shape, made_scene, scene_text};
+use std::alloc::Global;
+use std::process::Abort;
+use std::sync::Wait;
+use std::test::Fail;
+use std::thread::Threads;
+
+/// The lines of a frame that are the same with any number of workers: those of its tree, of how large
+/// that is, and of its bodies.
+fn common_lines(alloc: Global, text: &[u8]) -> Result<Vec<u8>, Fail> {
+    let mut lines: Vec<u8> = Vec::new(alloc);
+    for line in text.split(|byte| *byte == b'\n') {
+        if line.starts_with(b"tree ") || line.starts_with(b"cells ") || line.starts_with(b"acc ") {
+            lines.extend_from_slice(line)?;
+            lines.push(b'\n')?;
+        }
+    }
+    Ok(lines)
+}
+
+/// Those lines of the run of these words over a scene, with so many workers.
+fn lines_with<R: Abort + AllocGlobal + Threads + Wait + Sync>(
+    rt: &R,
+    line: &str,
+    scene: &[u8],
+    workers: u32,
+) -> Result<Vec<u8>, Fail> {
+    let words = format!(in rt.alloc(); "{line} --workers {workers}")?;
+    let (status, text) = run_with(rt, &words, scene, &sure_ends(1 << 16))?;
+    assert_eq!(rt; status, Status::Done, "{words}");
+    common_lines(rt.alloc(), &text)
+}
+
+/// The run of these words over a scene tells the same of its tree and of its bodies with one, three and
+/// eight workers.
+fn is_common<R: Abort + AllocGlobal + Threads + Wait + Sync>(
+    rt: &R,
+    line: &str,
+    scene: &[u8],
+) -> Result<(), Fail> {
+    let alone = lines_with(rt, line, scene, 1)?;
+    assert!(rt; alone.starts_with(b"tree "));
+    for workers in [3, 8] {
+        let together = lines_with(rt, line, scene, workers)?;
+        assert!(rt;
+            together.as_slice() == alone.as_slice(),
+            "{line}, {workers} workers"
+        );
+    }
+    Ok(())
+}
+
+/// The scene of 64 made bodies.
+fn made_bodies(alloc: Global) -> Result<Vec<u8>, Fail> {
+    let scene = made_scene(alloc, 64, 7, Shape::Uniform)?;
+    Ok(scene_text(alloc, &scene)?)
+}
+
+#[test]
+fn trees_and_pulls_are_the_same_with_any_workers(rt: HostRuntime) -> Result<(), Fail> {
+    let three = b"body,1,1,0,0\nbody,1,4,0,0\nbody,1,6,0,0\n";
+    let rows: [(&str, &[u8]); 7] = [
+        ("run", b""),
+        ("run", b"body,9,5,6,7\n"),
+        ("run", b"body,8,0,0,0\nbody,1,4,0,0\n"),
+        ("run", three),
+        ("run --theta 2/1", three),
+        ("run", b"body,1,0,0,0\nbody,1,1,0,0\nbody,1,2,0,0\n"),
+        (
+            "run",
+            b"body,1,0,0,0\nbody,1,0,0,1048576\nbody,1,0,1048576,0\nbody,1,1048576,0,0\n",
+        ),
+    ];
+    for (line, scene) in rows {
+        is_common(&rt, line, scene)?;
+    }
+    is_common(&rt, "run", &made_bodies(rt.alloc())?)
+}
+
+#[test]
+fn two_workers_meet(rt: HostRuntime) -> Result<(), Fail> {
+    let gate = MeetGate::new(0, 1);
+    let scene = made_bodies(rt.alloc())?;
+    let line = "tree --builder orig --workers 2";
+    let ran = run_at(&rt, line, &scene, &sure_ends(1 << 16), &gate)?;
+    assert!(rt; !gate.missed());
+    assert_eq!(rt; ran.status, Status::Done);
+    assert_eq!(rt; ran.published, 64);
+    Ok(())
+}
+
+/// Sixty-four workers make the tree of a scene, whose line this is, and count its bodies.
+fn many_make<R: Abort + AllocGlobal + Threads + Wait + Sync>(
+    rt: &R,
+    scene: &[u8],
+    text: &[u8],
+    bodies: u64,
+) -> Result<(), Fail> {
+    let ran = run_at(rt, "tree --workers 64", scene, &sure_ends(100), &OpenGate)?;
+    assert_eq!(rt; ran.status, Status::Done);
+    assert!(rt; ran.text.as_slice() == text);
+    assert_eq!(rt; ran.published, bodies);
+    assert_eq!(rt; ran.changes, bodies);
+    Ok(())
+}
+
+#[test]
+fn more_workers_than_bodies(rt: HostRuntime) -> Result<(), Fail> {
+    many_make(&rt, b"", b"tree .\n", 0)?;
+    let three = b"body,1,0,0,0\nbody,1,0,0,1048576\nbody,1,0,1048576,0\n";
+    many_make(&rt, three, b"tree (b0b1b2.....)\n", 3)
+}
