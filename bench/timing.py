@@ -7,6 +7,9 @@ import time
 
 TOP = os.path.dirname(os.path.dirname(os.path.realpath(__file__)))
 
+# Programs are timed as the launcher ./nbody runs them, with great blocks in pages of 2 MiB.
+os.environ.setdefault("GLIBC_TUNABLES", "glibc.malloc.hugetlb=1")
+
 # The scenes that are timed, by the programs that draw them. The seed is always 1.
 SHAPES = {
     "uniform": ["tools/make-uniform"],
