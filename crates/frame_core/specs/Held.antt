@@ -1,6 +1,7 @@
 -- What an engine holds.
 use Rattle.std.specs.Prelude.{◌≡◌, Some, length, map, ⊤}
 use Rattle.std.specs.List.{All}
+use Rattle.bh_model.specs.Trees.{depth}
 use Rattle.bh_model.specs.Zones.{zones}
 use Rattle.force_walk.specs.Walks.{pulls}
 use Rattle.mass_moments.specs.Kept.{IsCost, cost_at, matter_of}
@@ -34,9 +35,10 @@ state_of e = record {
   stage = stage_of e.stage;
 }
 
--- the figures of an engine's frame, the zones by its costs, and the pulls on all bodies
+-- the figures of an engine's frame, the depth of its tree, the zones by its costs, and the pulls on all bodies
 pub record AreParts (e : EngineState) (parts : FrameParts) : Type 0 where
   pub figures : parts.figures ≡ frame_of e
+  pub depth : parts.depth ≡ depth (tree_of_bodies e.bodies)
   pub zones : map (λ z. z.items) parts.zones.items ≡ zones (cost_at e.costs) e.plan.workers (tree_of_bodies e.bodies)
   pub pulls : parts.pulls.items ≡ pulls e.plan.law (matter_of e.bodies) (length e.bodies) (tree_of_bodies e.bodies)
 

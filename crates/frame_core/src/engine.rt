@@ -56,6 +56,7 @@ impl Model for Engine {
 impl Engine {
     ghost use Rattle.std.specs.Prelude.{◌≡◌, ◌<◌, IfOk, IsErr, OnErr, OnOk, length};
     ghost use Rattle.octant_code.specs.Points.{site_at};
+    ghost use Rattle.bh_model.specs.Trees.{depth};
     ghost use Rattle.bh_model.specs.Zones.{zone};
     ghost use Rattle.bh_model.specs.declared.plan.Builder.TheVariants.{Orig};
     ghost use Rattle.frame_core.specs.Engines.{HasTree, IsUsable, Spent, WithFrame, WithTree, WithoutTree, frame_of, opened, with_frame, with_tree};
@@ -162,10 +163,11 @@ impl Engine {
         let cut = zones.as_slice();
         let pulls = pulls(rt, self.alloc, tree, &moments, bodies, cut, &plan.law)?;
         let sums = sum_up(bodies, &pulls);
+        let size = tree.extent();
         let figures = Frame {
             step: self.step,
             bodies: count,
-            cells: tree.cells(),
+            cells: size.cells,
             cost: moments.cost_of(&tree.whole(), costs),
             greatest: greatest_cost(cut, costs),
             met: sums.met,
@@ -175,6 +177,7 @@ impl Engine {
         };
         Ok(FrameParts {
             figures,
+            depth: size.depth,
             zones,
             pulls,
         })
@@ -198,6 +201,17 @@ impl Engine {
         match &self.last {
             Some(tree) => tree.octree(),
             None => unreachable!(),
+        }
+    }
+
+    /// The depth of the tree of the engine's frame: the greatest level of a word that names a body, 0 to 21.
+    pub fn depth(&self) -> u32
+        requires { self.now.stage ≡ WithFrame }
+        ensures { result ≡ depth (tree_of_bodies self.now.bodies) }
+    {
+        match &self.stage {
+            Stage::Frame(parts) => parts.depth,
+            _ => unreachable!(),
         }
     }
 

@@ -3,10 +3,11 @@
 use bh_model::Pull;
 use probe::Frame;
 
-/// The figures of a frame, the zones of the workers, and the pulls on the bodies.
+/// The figures of a frame, the depth of its tree, the zones of the workers, and the pulls on the bodies.
 #[derive(Drop)]
 pub struct FrameParts {
     pub figures: Frame,
+    pub depth: u32,
     pub zones: Vec<Vec<u32>>,
     pub pulls: Vec<Pull>,
 }

@@ -1,6 +1,7 @@
 //! The lines of a frame.
 
 ghost use Rattle.std.specs.Prelude.{◌≡◌, ◌++◌, length};
+ghost use Rattle.bh_model.specs.Trees.{depth};
 ghost use Rattle.bh_outside.specs.Outside.{HasCause, Writes};
 ghost use Rattle.bh_outside.specs.Text.{Puts};
 ghost use Rattle.frame_core.specs.Engines.{WithFrame, frame_of};
@@ -16,13 +17,15 @@ use octant_code::Point;
 use octree::Octree;
 use probe::Frame;
 
-/// Puts the lines at the head of a frame.
+/// Puts the lines at the head of a frame whose tree is so deep.
 fn put_head<K: Sink>(
     tree: &Octree,
+    levels: u32,
     frame: &Frame,
     buffer: &mut TextBuffer,
     sink: &mut K,
 ) -> Result<(), Failed>
+    requires { levels ≡ depth (tree_of tree.now) }
     ensures text { Puts (K.written sink.old) (K.written sink.new) buffer.old buffer.new (lines_text (head_lines (tree_of tree.now) frame.now)) result }
     ensures cause { HasCause (K.faults sink.old) (K.faults sink.new) result }
 {
@@ -32,7 +35,7 @@ fn put_head<K: Sink>(
     let size = [
         Item::Number(frame.cells as u64),
         Item::Word(b"depth"),
-        Item::Number(tree.depth() as u64),
+        Item::Number(levels as u64),
     ];
     put_line(&Line::Words(b"cells", &size), buffer, sink)?;
     let cost = [
@@ -149,7 +152,7 @@ fn put_frame<K: Sink>(
     ensures text { Puts (K.written sink.old) (K.written sink.new) buffer.old buffer.new (lines_text (frame_lines engine.now)) result }
     ensures cause { HasCause (K.faults sink.old) (K.faults sink.new) result }
 {
-    put_head(engine.octree(), frame, buffer, sink)?;
+    put_head(engine.octree(), engine.depth(), frame, buffer, sink)?;
     put_rows(engine, frame.bodies, buffer, sink)
 }
 

@@ -1,5 +1,5 @@
-use Rattle.std.proofs.Common.{◌≡◌, ◌++◌, ◌∙◌, List, ap, subst}
-use Rattle.bh_model.specs.Trees.{Tree}
+use Rattle.std.proofs.Common.{◌≡◌, ◌++◌, ◌∙◌, List, ap, subst, sym}
+use Rattle.bh_model.specs.Trees.{Tree, depth}
 use Rattle.bh_outside.specs.Text.{PutsAll, PutsFront}
 use Rattle.frame_core.specs.Engines.{frame_of}
 use Rattle.frame_core.specs.Frames.{tree_of_bodies}
@@ -13,6 +13,9 @@ use Rattle.nbody_cli.proofs.frame_text.put_frame.Goals as goal
 -- the head by equal trees and figures
 head_is : (t t' : Tree) (f f' : FrameFigures) → t ≡ t' → f ≡ f' → head_lines t f ≡ head_lines t' f'
 head_is t t' f f' trees figures = ap (λ (u : Tree). head_lines u f) trees ∙ ap (λ (g : FrameFigures). head_lines t' g) figures
+
+pub put_head-requires : goal.put_head-requires
+put_head-requires g c = c.depth.ensures ∙ sym (ap depth c.octree.ensures.tree)
 
 pub returns-in_err-put_head-clause-text : goal.returns-in_err-put_head-clause-text
 returns-in_err-put_head-clause-text g c =

@@ -72,7 +72,7 @@ returns-in_err-put_line-3-clause-text g c =
     (line_text (size_line f.cells d)) in
     after_size (tree_of c.args.tree.now) c.args.frame.now _ _ _ _ _ _ _ _ _ c.from_residual-in_err-put_line-3.ensures.0
     (subst P c.frame.view_is c.in_ok-put_line.ensures.text) c.in_ok-put_line-2.ensures.text
-    (subst (Q c.args.frame.now) c.depth.ensures (subst (λ (f : FrameFigures). Q f c.depth.result) c.frame.view_is c.in_err-put_line-3.ensures.text))
+    (subst (Q c.args.frame.now) c.requires (subst (λ (f : FrameFigures). Q f c.args.levels) c.frame.view_is c.in_err-put_line-3.ensures.text))
 
 pub returns-clause-text : goal.returns-clause-text
 returns-clause-text g c =
@@ -85,5 +85,5 @@ returns-clause-text g c =
     c.put_line-4.new.buffer (line_text (cost_line f.cost f.greatest)) c.put_line-4.result in
     after_all (tree_of c.args.tree.now) c.args.frame.now _ _ _ _ _ _ _ _ _ _ _ (subst P c.frame.view_is c.in_ok-put_line.ensures.text)
     c.in_ok-put_line-2.ensures.text
-    (subst (Q c.args.frame.now) c.depth.ensures (subst (λ (f : FrameFigures). Q f c.depth.result) c.frame.view_is c.in_ok-put_line-3.ensures.text))
+    (subst (Q c.args.frame.now) c.requires (subst (λ (f : FrameFigures). Q f c.args.levels) c.frame.view_is c.in_ok-put_line-3.ensures.text))
     (subst R c.frame.view_is c.put_line-4.ensures.text)

@@ -3,7 +3,7 @@ use mir.Val.{of_z, to_z}
 use Rattle.std.proofs.Common.{◌≡◌, ◌<◌, ◌≤◌, ◌^◌, ℕ, List, length, ap, subst, ◌∙◌, arith, sym}
 use Rattle.bh_model.specs.Bodies.{IsIn}
 use Rattle.bh_model.specs.Plans.{TreePlan}
-use Rattle.bh_model.specs.Trees.{Tree, cell_count, order}
+use Rattle.bh_model.specs.Trees.{Tree, cell_count, depth, order}
 use Rattle.bh_model.proofs.Totals.{total-order}
 use Rattle.bh_model.specs.Moments.{total}
 use Rattle.bh_model.specs.Zones.{cost_of, zones}
@@ -114,11 +114,11 @@ returns g c =
     let read : c.deref.result.now ≡ pulls law (matter_of bodies) (length bodies) (tree_of_bodies bodies) = c.deref.ensures.value ∙ all in
     let sums = c.sum_up-sums.ensures in
     let F : TreePlan → Type 0 = λ p.
-    figures i.step c.len-count.result c.cells.result c.cost_of.result c.greatest_cost.result c.sum_up-sums.result.met
+    figures i.step c.len-count.result c.extent-size.result.cells c.cost_of.result c.greatest_cost.result c.sum_up-sums.result.met
     (to_z w128 (of_z w128 c.sum_up-sums.result.push_x))
     (to_z w128 (of_z w128 c.sum_up-sums.result.push_y)) (to_z w128 (of_z w128 c.sum_up-sums.result.push_z)) ≡ frame_figures p (cost_at costs) i.step bodies in
     let told = subst F c.plan.view_is
-    (same_figures i.step _ _ _ _ _ _ _ _ _ _ _ _ _ _ _ _ c.len-count.ensures.value (c.cells.ensures.tree ∙ ap cell_count tree)
+    (same_figures i.step _ _ _ _ _ _ _ _ _ _ _ _ _ _ _ _ c.len-count.ensures.value (c.extent-size.ensures.tree ∙ ap cell_count tree)
     (whole_is (cost_at costs) _ _ c.cost_of.result c.whole.ensures.tree c.cost_of.ensures ∙ ap (λ t. cost_of (cost_at costs) (order t)) tree)
     (c.greatest_cost.ensures ∙ greatest_is (λ z. z.items) c.as_slice-cut.result.now (cost_at costs) workers (tree_of_bodies bodies) cut)
     (sums.met ∙ met_is law bodies c.deref.result.now read)
@@ -127,6 +127,7 @@ returns g c =
     (read_again c.sum_up-sums.result.push_z sums.small_z ∙ sums.push_z ∙ push_is (λ p. p.az) law bodies c.deref.result.now read)) in
     rw (← c.self.view_is) (record {
       figures = told ∙ ap (λ cs. frame_figures i.plan (cost_at cs) i.step bodies) same;
+      depth = c.extent-size.ensures.depth ∙ ap depth tree;
       zones =
           c.in_ok-zones.ensures ∙ ap (zones (cost_at costs) workers) tree ∙ ap (λ cs. zones (cost_at cs) workers (tree_of_bodies bodies)) same
           ∙ ap (λ (p : TreePlan). zones (cost_at i.costs.items) p.workers (tree_of_bodies bodies)) c.plan.view_is;
