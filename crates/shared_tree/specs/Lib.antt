@@ -1,0 +1,5 @@
+pub mod Seen
+pub mod Ends
+pub mod Finding
+pub mod Publishing
+pub mod Inserting

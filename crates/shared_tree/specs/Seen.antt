@@ -1,0 +1,78 @@
+-- What contracts see of a shared tree, of a pass, and of a yard.
+use Rattle.std.specs.Prelude.{ℕ, ◌≡◌, ◌+◌, ◌*◌, ◌-◌, ◌^◌, ◌<◌, ◌≤◌, List, [], ◌++◌, length, min}
+use Rattle.atomic_table.specs.Seated.{TableId}
+use Rattle.octant_code.specs.Space.{Site}
+use Rattle.octant_code.specs.Points.{ArePoints}
+use Rattle.octant_code.specs.declared.limits.TheConstants.{MOST_BODIES}
+use Rattle.tree_rule.specs.declared.words.TheConstants.{CELLS_OF_ONE, MOST_CELLS, POOL_PLACE}
+use Rattle.octree.specs.Stored.{word_count}
+use Rattle.tree_passes.specs.declared.view.View.{View}
+use Rattle.tree_passes.specs.Counting.{times}
+use Rattle.tree_passes.specs.Making.{IsReady}
+use Rattle.tree_passes.specs.Opening.{Opening}
+
+-- a shared tree: which table its words stand in, and what it was opened with
+pub record SharedTree : Type 0 where
+  pub table_id : TableId
+  pub opening : Opening
+
+-- a pass: which table it is of, the points of its tree, its lists, how often it published and loaded, and the key and the value of the published
+-- word that it loaded last
+pub record PassState : Type 0 where
+  pub table_id : TableId
+  pub points : List Site
+  pub todo : List ℕ
+  pub done : List ℕ
+  pub seen : List ℕ
+  pub changes : ℕ
+  pub loads : ℕ
+  pub last : ℕ × ℕ
+
+-- what a pass was entrusted with: what it is to put in, and what it put in
+abbrev pub entrusted : PassState → List ℕ
+entrusted p = p.todo ++ p.done
+
+-- the pass is of the tree
+pub record IsOf (p : PassState) (t : SharedTree) : Type 0 where
+  pub table : p.table_id ≡ t.table_id
+  pub points : p.points ≡ t.opening.sites
+
+-- what is seen of a pass with a view
+abbrev pub state_of : TableId → View → PassState
+state_of table v = record {
+  table_id = table;
+  points = v.points;
+  todo = v.todo;
+  done = v.done;
+  seen = v.seen;
+  changes = v.changes;
+  loads = v.loads;
+  last = v.last;
+}
+
+-- What a pass keeps between its calls: it holds no lock, the spare cells are its own, and with those that it may still use or draw, so many in all, it has
+-- 21 for each body that it is to put in.
+pub record IsAtRest (v : View) (words : ℕ) (spare : List ℕ) (count : ℕ) : Type 0 where
+  pub some : POOL_PLACE < words
+  pub few : words ≤ word_count MOST_CELLS
+  pub rule : ArePoints v.points
+  pub no_lock : v.locks ≡ []
+  pub none_under : v.under ≡ []
+  pub todo_in : (x : ℕ) → 1 ≤ times x v.todo → x < length v.points
+  pub ready : IsReady v words spare
+  pub stocked : CELLS_OF_ONE * length v.todo ≤ count
+
+-- the counts of a yard
+pub record YardCounts : Type 0 where
+  pub published : ℕ
+  pub changes : ℕ
+
+-- a count that rises, up to the greatest number of 64 bits
+abbrev pub risen : ℕ → ℕ → ℕ
+risen count by = min (count + by) (2 ^ 64 - 1)
+
+-- What a pass counts: it is to put in no more bodies than there may be, and its counts are those of its view, up to the greatest number of 64 bits.
+pub record IsCounted (v : View) (published changes : ℕ) : Type 0 where
+  pub todo_few : length v.todo ≤ MOST_BODIES
+  pub bodies : published ≡ risen 0 (length v.done)
+  pub publications : changes ≡ risen 0 v.changes

@@ -1,0 +1,51 @@
+//! How a pass publishes in a shared tree.
+
+ghost use Rattle.std.specs.Prelude.{◌≡◌, ◌≢◌, ℕ, [], ◌+◌, length};
+ghost use Rattle.tree_passes.specs.Passes.{KnowsPlace};
+ghost use Rattle.tree_passes.specs.Plays.{IsReadyFor};
+ghost use Rattle.shared_tree.specs.Publishing.{HasFoundOther, HasPublished, IsSpot};
+
+use octant_code::Steps;
+use std::sync::ledger::Ledger;
+use tree_passes::{Pass, Words};
+
+/// A published word on the way down: its place, that of its lock, and the level of its cube.
+#[derive(Clone, Copy, Drop)]
+pub struct Spot {
+    pub word: usize,
+    pub lock: usize,
+    pub level: u32,
+}
+
+/// What publishes in the tables of one kind of writing.
+pub trait Publisher {
+    ghost use Rattle.tree_passes.specs.declared.view.Writing.{Writing};
+
+    ghost writing: { Writing };
+
+    /// Puts `new` in the place of `old`, if a published word is still `old`, and publishes with it these
+    /// cells and bodies. Counts a step. Returns what was there; other than `old` it is learnt. A pass
+    /// holds no lock before it and none after it.
+    fn publish<L: Ledger>(
+        &self,
+        table: &Words,
+        pass: &mut Pass,
+        spot: Spot,
+        old: u64,
+        new: u64,
+        cells: &[u32],
+        bodies: &[u32],
+        steps: &mut Steps<L>,
+    ) -> u64
+        requires writing { table.now.key.writing ≡ writing }
+        requires place { pass.old.table_id ≡ table.now.table_id }
+        requires spot { IsSpot table.now.table_id.words spot }
+        requires long { length pass.old.me.0.memory ≡ table.now.table_id.words }
+        requires no_lock { (pass.old.me.0.locks ≡ []) × (pass.old.me.0.under ≡ []) }
+        requires ready { (key : ℕ) × KnowsPlace pass.old.me.0 spot.word key × IsReadyFor pass.old.me.0 key old new cells.now bodies.now }
+        ensures pass { (pass.new.table_id ≡ pass.old.table_id) × (pass.new.me.1 ≡ pass.old.me.1) }
+        ensures no_lock { (pass.new.me.0.locks ≡ []) × (pass.new.me.0.under ≡ []) }
+        ensures hit { result ≡ old → HasPublished pass.old.me.0 pass.new.me.0 cells.now bodies.now }
+        ensures miss { result ≢ old → (key : ℕ) → KnowsPlace pass.old.me.0 spot.word key → HasFoundOther pass.old.me.0 spot.word key result pass.new.me.0 }
+        ensures steps { steps.new ≡ steps.old + 1 };
+}
