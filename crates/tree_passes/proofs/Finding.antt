@@ -2,18 +2,34 @@
 use Rattle.std.proofs.Common.{◌≡◌, ◌≢◌, ℕ, ◌+◌, ◌<◌, ◌≤◌, ◌⊎◌, List, length, sym, ap, ◌∙◌, subst, inl, inr, arith}
 use Rattle.octant_code.specs.declared.limits.TheConstants.{LEVELS}
 use Rattle.octant_code.specs.Space.{Site, key_of, IsUnder}
-use Rattle.octant_code.specs.Points.{site_at}
+use Rattle.octant_code.specs.Points.{site_at, ArePoints}
+use Rattle.std.proofs.lemmas.Bool.{cases_lt}
 use Rattle.tree_rule.specs.Words.{body_word, cell_word}
 use Rattle.tree_passes.specs.declared.view.View.{View}
 use Rattle.tree_passes.specs.Counting.{times}
 use Rattle.tree_passes.specs.Passes.{loaded, Met}
-use Rattle.tree_passes.specs.Looks.{Sought}
+use Rattle.tree_passes.specs.Looks.{FoundBody, Looked, Sought}
 use Rattle.tree_passes.specs.Turns.{Descends, HasFound, HasNone, IsStill}
 use Rattle.tree_passes.proofs.Turns.{descends_learnt, still_counted, still_looked, still_on}
 
 -- a body that the pass has met stays met
 met_on : (u v : View) (x : ℕ) → IsStill u v → Met u x → Met v x
 met_on u v x s m = let a = ap (times x) s.done in let b = ap (times x) s.seen in let n : 1 ≤ times x u.done + times x u.seen = m in omega arith
+
+-- a load on the way to a body that the pass is to put in finds no body at its point, so it is a plain look
+pub looked_own : (v w : View) (i key value n : ℕ) (point : Site) → ArePoints v.points → n < length v.points → 1 ≤ times n v.todo
+    → site_at v.points n ≡ point → Sought v i key value point w → Looked v i key value w
+looked_own v w i key value n point rule n_in own is s =
+    subst (Looked v i key value) (sym (s.miss (λ y e at. alone y (s.looked.tells.body y e) (at ∙ sym is)))) s.looked
+  where
+    alone : (y : ℕ) → FoundBody (loaded v key value) key y → site_at v.points y ≢ site_at v.points n
+    alone y f at = elim (cases_lt y n) [
+      | inl l ↦ rule.apart y n l n_in at
+      | inr r ↦ elim (cases_lt n y) [
+        | inl l ↦ rule.apart n y l f.x_in (sym at)
+        | inr p ↦ let g : times n v.todo ≡ 0 = subst (λ (z : ℕ). times z v.todo ≡ 0) (omega arith) f.not_todo in omega arith
+      ]
+    ]
 
 -- a load that looks for a body at a point, with the key of a cube that holds the point
 module _ (u v w : View) (i level value : ℕ) (point : Site) (s : IsStill u v) (low : level ≤ LEVELS) (h : Sought v i (key_of point level) value point w) where

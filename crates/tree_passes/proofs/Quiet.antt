@@ -26,7 +26,7 @@ use Rattle.tree_passes.specs.Locks.{CellsLock, IsLock, RootsLock}
 use Rattle.tree_passes.specs.Rules.{RuleOf}
 use Rattle.tree_passes.proofs.Keeps.{IsKeptByQuiet}
 use Rattle.tree_passes.proofs.BothRules.{kept_of, quiet_of}
-use Rattle.tree_passes.specs.Plays.{Mine, looked, read, sought, wrote}
+use Rattle.tree_passes.specs.Plays.{Mine, read, sought, wrote}
 use Rattle.tree_passes.proofs.Counts.{same-ne}
 use Rattle.tree_passes.proofs.After.{SameLists, reviewed, set_read}
 use Rattle.tree_passes.proofs.Looking.{after_load, knows_load, looked_load, named_body, same_key, there}
@@ -91,23 +91,6 @@ module _ (k : Told) where
         pool_word = refl;
         places = λ h key i p. refl;
       }) (reviewed o s (kept s holds) id me.0 w at same.lists knows))
-
-  -- a published word is loaded
-  pub looks : (slots id : ℕ) (me : Mine) (i key : ℕ) → KnowsPlace me.0 i key → Allows R slots id me i (λ n. n) (looked (step slots i 0 0 none) me)
-  looks slots id me i key place s holds len at small =
-      let h = kept s holds in
-      let w = after_load o s h id me.0 at i key (there o s h id me.0 at i key place) in (
-        w,
-        keeps,
-        tt,
-        reread s holds i id me w at (only_seen me.0 _ _ _ _ _)
-            (knows_load o s h id me.0 at i key (there o s h id me.0 at i key place)),
-        (
-          refl,
-          λ other q. subst (λ (z : ℕ). Looked me.0 i z (at_of s.words i) w) (same_key o s h id me.0 at i key (there o s h id me.0 at i key place) other q)
-              (looked_load o s h id me.0 at i key (there o s h id me.0 at i key place)),
-        ),
-      )
 
   -- a word of a cell that the pass holds is written
   pub writes : (slots id : ℕ) (me : Mine) (c j i new : ℕ) → 1 ≤ times c me.0.held → j < ROW_WORDS → i ≡ child_place c j

@@ -17,10 +17,6 @@ use Rattle.tree_passes.specs.Looks.{Learns, Looked, Sought}
 abbrev pub Mine : Type 0
 Mine = Me (Unit {0}) View
 
--- a published word is loaded
-abbrev pub looked : Step (Unit {0}) → Mine → ℕ → Mine → Type 0
-looked st m found m' = (m'.1 ≡ m.1) × ((key : ℕ) → KnowsPlace m.0 st.word key → Looked m.0 st.word key found m'.0)
-
 -- a published word is loaded on the way to a body at a point
 abbrev pub sought : Site → Step (Unit {0}) → Mine → ℕ → Mine → Type 0
 sought point st m found m' = (m'.1 ≡ m.1) × ((key : ℕ) → KnowsPlace m.0 st.word key → Sought m.0 st.word key found point m'.0)

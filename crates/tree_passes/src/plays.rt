@@ -5,15 +5,6 @@ use crate::view::View;
 use atomic_table::{Join, Play, Split};
 use std::marker::{Brand, PhantomData};
 
-/// A load of a published word.
-pub struct Look;
-
-impl Play<(), View> for Look {
-    ghost use Rattle.tree_passes.specs.Plays.{looked};
-
-    ghost then = { looked };
-}
-
 /// The point that is sought, which the proof of a call picks.
 pub trait Target {
     ghost use Rattle.octant_code.specs.Space.{Site};
