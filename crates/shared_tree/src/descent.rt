@@ -13,7 +13,7 @@ ghost use Rattle.shared_tree.specs.Inserting.{IsAt, IsPutIn, LeadsTo};
 use crate::publisher::{Publisher, Spot};
 use octant_code::{LEVELS, Point, Points, Steps, key_at, octant};
 use std::sync::ledger::Ledger;
-use tree_passes::{Cube, Pass, Words, counted_load, part_two};
+use tree_passes::{Cube, Pass, Words, load, part_two};
 use tree_rule::{
     Named, ROOT_LOCK, named_by, place_of_child, place_of_lock, word_of_body, word_of_cell,
 };
@@ -56,20 +56,16 @@ fn put_over<P: Publisher, L: Ledger>(
     };
     let used = part_two(table, pass, spare, points, x, n, cube);
     let top = word_of_cell(spare[0]);
-    let found = publisher.publish(
-        table,
-        pass,
-        spot,
-        word_of_body(x),
-        top,
-        &spare[..used],
-        &[n],
-        steps,
-    );
-    if let Named::Cell(cell) = named_by(found) {
-        return Turn::Below(cell);
+    let old = word_of_body(x);
+    let cells = &spare[..used];
+    let found = publisher.publish(table, pass, spot, old, top, cells, &[n], steps);
+    if found == old {
+        return Turn::Done(used);
     }
-    Turn::Done(used)
+    match named_by(found) {
+        Named::Cell(cell) => Turn::Below(cell),
+        _ => unreachable!(),
+    }
 }
 
 /// Puts the body's word where the word was empty when it was looked at.
@@ -124,7 +120,7 @@ fn visit<P: Publisher, L: Ledger>(
     ensures turn { LeadsTo pass.old.me.0 pass.new.me.0 n spare.now (key_of (site_at points.now n) spot.level) result }
     ensures steps { steps.new ≤ steps.old + 3 }
 {
-    match named_by(counted_load(table, pass, spot.word, steps)) {
+    match named_by(load(table, pass, spot.word, points.at(n), steps)) {
         Named::Nothing => put_alone(publisher, table, pass, spare, points, n, spot, steps),
         Named::Body(x) => put_over(publisher, table, pass, spare, points, x, n, spot, steps),
         Named::Cell(cell) => Turn::Below(cell),

@@ -7,7 +7,7 @@ ghost use Rattle.tree_passes.specs.Turns.{HasFound, HasNone};
 
 use octant_code::{LEVELS, Point, Points, Steps, octant};
 use std::sync::ledger::Ledger;
-use tree_passes::{Pass, Words, counted_seek};
+use tree_passes::{Pass, Words, load};
 use tree_rule::{Named, named_by, place_of_child};
 
 /// The body at a point, by at most 22 steps. None only where the pass has done or seen no body there.
@@ -32,7 +32,7 @@ pub fn find<L: Ledger>(
     let _rule = points.len();
     let mut word = 0;
     for level in 0..LEVELS + 1 {
-        match named_by(counted_seek(table, pass, word, p, steps)) {
+        match named_by(load(table, pass, word, p, steps)) {
             Named::Nothing => return None,
             Named::Body(body) => {
                 if points.at(body) == p {
