@@ -1,6 +1,7 @@
 -- What a tree is opened with, and what it is when it is closed.
 use Rattle.std.specs.Prelude.{ℕ, ◌≡◌, ◌+◌, ◌-◌, ◌*◌, ◌<◌, ◌≤◌, ◌⊎◌, ◌↔◌, List, [], ◌++◌, length}
-use Rattle.bh_model.specs.Bodies.{IsIn}
+use Rattle.bh_model.specs.Bodies.{IsIn, NoneTwice}
+use Rattle.tree_rule.specs.declared.words.TheConstants.{MOST_CELLS}
 use Rattle.tree_rule.specs.Words.{at_of, child_place, key_place, lock_place, HasBody, HasCell}
 use Rattle.octree.specs.Free.{AreFreeCells}
 use Rattle.octree.specs.Stored.{AreOctreeWords, IsBlankFrom, IsCanonical, IsStored, Stored, word_count}
@@ -25,6 +26,17 @@ pub record AreHandedOut (start : Stored) (count : ℕ) (region : List ℕ) (cell
   pub free_are : AreFreeCells start free
   pub region_is : region ≡ free ++ numbers_from start.held (count - length free)
   pub cells_are : cells ≡ start.held + (count - length free)
+
+-- What cells that are dealt out are good for: the table has those of the start, the region has others of the table, each once, and the pool gives out the
+-- rest, from a first number on and as many as a quota.
+pub record Serves (start : Stored) (region : List ℕ) (cells first quota : ℕ) : Type 0 where
+  pub more : start.held ≤ cells
+  pub few : cells ≤ MOST_CELLS
+  pub once : NoneTwice region
+  pub bare : (c : ℕ) → IsIn region c → HasCell start.words c → ⊥
+  pub given : (c : ℕ) → IsIn region c → c < first
+  pub sum : cells ≡ first + quota
+  pub start_given : start.held ≤ first
 
 -- The words are those of an octree, and 0 from its used cells on to so many cells.
 pub record AreStartWords (start : Stored) (words : List ℕ) (cells : ℕ) : Type 0 where

@@ -7,12 +7,15 @@ use Rattle.octant_code.specs.declared.limits.TheConstants.{MOST_BODIES}
 use Rattle.tree_rule.specs.declared.words.TheConstants.{CELLS_OF_ONE, MOST_CELLS, POOL_PLACE}
 use Rattle.octree.specs.Stored.{word_count}
 use Rattle.tree_passes.specs.declared.view.View.{View}
+use Rattle.tree_passes.specs.declared.view.Writing.{Writing}
 use Rattle.tree_passes.specs.Counting.{times}
 use Rattle.tree_passes.specs.Making.{IsReady}
 use Rattle.tree_passes.specs.Opening.{Opening}
+use Rattle.tree_passes.specs.Passes.{given_part, kept_part}
 
--- a shared tree: which table its words stand in, and what it was opened with
+-- a shared tree: how its published words are written, which table its words stand in, and what it was opened with
 pub record SharedTree : Type 0 where
+  pub writing : Writing
   pub table_id : TableId
   pub opening : Opening
 
@@ -49,6 +52,25 @@ state_of table v = record {
   loads = v.loads;
   last = v.last;
 }
+
+-- the parts of a pass, as trees see them: which table it is of, its view, and the cells of its region
+pub record PartsOfPass : Type 0 where
+  pub table_id : TableId
+  pub view : View
+  pub cells : List ℕ
+
+-- the pass that has these parts
+abbrev pub seen_of : PartsOfPass → PassState
+seen_of p = state_of p.table_id p.view
+
+-- A pass was split: the new one has these bodies, the last so many cells of the region, and this quota.
+pub record IsSplit (before after new : PartsOfPass) (part : List ℕ) (cells quota : ℕ) : Type 0 where
+  pub old_table : after.table_id ≡ before.table_id
+  pub new_table : new.table_id ≡ before.table_id
+  pub parted : before.cells ≡ after.cells ++ new.cells
+  pub count : length new.cells ≡ cells
+  pub kept : after.view ≡ kept_part new.cells part quota before.view
+  pub given : new.view ≡ given_part new.cells part quota before.view
 
 -- What a pass keeps between its calls: it holds no lock, the spare cells are its own, and with those that it may still use or draw, so many in all, it has
 -- 21 for each body that it is to put in.

@@ -2,10 +2,17 @@
 //! the search, passes that are split and joined, and how trees are opened and closed.
 #![tactic(auto)]
 
+mod copy;
 mod descent;
+mod parts;
 mod publisher;
 mod search;
+mod start;
+mod yard;
 
 pub use descent::insert;
+pub use parts::{PassParts, TreeParts};
 pub use publisher::{Publisher, Spot};
 pub use search::find;
+pub use start::{Deal, deal_region, open};
+pub use yard::YardParts;

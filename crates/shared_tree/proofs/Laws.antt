@@ -1,0 +1,9 @@
+-- What callers rest on, which import nothing else of these proofs.
+
+-- a tree that began empty, and ends with all bodies
+pub use Rattle.shared_tree.proofs.Whole.{octree_put}
+-- cells that are dealt out
+pub use Rattle.shared_tree.proofs.Starts.{region_enough, room_of_regions, serves_region}
+-- passes between their calls
+pub use Rattle.shared_tree.proofs.Resting.{rest_joined, rest_with}
+pub use Rattle.shared_tree.proofs.Rests.{part_few, rest_given, rest_kept}

@@ -1,0 +1,84 @@
+-- Passes that are split.
+use Rattle.std.proofs.Common.{◌≡◌, ℕ, ◌+◌, ◌-◌, ◌*◌, ◌≤◌, List, [], ◌∷◌, ◌++◌, length, length-append, refl, sym, ap, subst, ◌∙◌, arith}
+use Rattle.tree_rule.specs.declared.words.TheConstants.{CELLS_OF_ONE}
+use Rattle.tree_passes.specs.declared.view.View.{View}
+use Rattle.tree_passes.specs.Counting.{times, without, without_all}
+use Rattle.tree_passes.specs.Passes.{given_part, kept_part}
+use Rattle.tree_passes.proofs.Laws.{length-without, same-eq, times-append, times-without, times-without_all}
+use Rattle.shared_tree.specs.Seen.{IsAtRest, IsCounted, IsSplit, PartsOfPass}
+
+-- numbers that all stand in a list are no more than its
+pub length-without_all : (part l : List ℕ) → ((x : ℕ) → times x part ≤ times x l) → length (without_all part l) + length part ≡ length l
+length-without_all [] l h = omega arith
+length-without_all (x ∷ xs) l h =
+    let first : 1 ≤ times x l = let q = h x in let one = same-eq x x refl in omega arith in
+    let r = length-without_all xs (without x l) (λ z. let q = h z in let w = times-without x z l first in omega arith) in
+    let w = length-without x l first in
+    omega arith
+
+-- the bodies of a part are no more than those that are to be put in
+pub part_few : (v : View) (part : List ℕ) → ((x : ℕ) → times x part ≤ times x v.todo) → length part ≤ length v.todo
+part_few v part among = let n = length-without_all part v.todo among in omega arith
+
+-- the pass that was split, from whose spare cells the given ones were taken
+pub rest_kept : (v w u : PartsOfPass) (words : ℕ) (spare left part : List ℕ) (cells quota count kept : ℕ) → IsSplit v w u part cells quota
+    → spare ≡ left ++ u.cells → ((x : ℕ) → times x part ≤ times x v.view.todo) → count ≤ kept + CELLS_OF_ONE * length part
+    → IsAtRest v.view words spare count → IsAtRest w.view words left kept
+rest_kept v w u words spare left part cells quota count kept s is among enough r =
+    let both : (c : ℕ) → times c spare ≡ times c left + times c u.cells = λ c. ap (times c) is ∙ times-append c left u.cells in
+    let n = length-without_all part v.view.todo among in
+    subst (λ (z : View). IsAtRest z words left kept) (sym s.kept) (record {
+      some = r.some;
+      few = r.few;
+      rule = r.rule;
+      no_lock = r.no_lock;
+      none_under = r.none_under;
+      todo_in = λ x p. r.todo_in x (let t = times-without_all part v.view.todo among x in omega arith);
+      ready = record {
+        long = r.ready.long;
+        held = λ c.
+            let a = r.ready.held c in
+            let b = both c in
+            let t = times-without_all u.cells v.view.held (λ x. let f = r.ready.held x in let g = both x in omega arith) c in
+            omega arith;
+        once = λ c. let a = r.ready.once c in let b = both c in omega arith;
+        inside = λ c p. r.ready.inside c (let b = both c in omega arith);
+      };
+      stocked = let a = r.stocked in omega arith;
+    })
+
+-- and the new one
+pub rest_given : (v w u : PartsOfPass) (words : ℕ) (spare left part : List ℕ) (cells quota count given : ℕ) → IsSplit v w u part cells quota
+    → spare ≡ left ++ u.cells → ((x : ℕ) → times x part ≤ times x v.view.todo) → CELLS_OF_ONE * length part ≤ given
+    → IsAtRest v.view words spare count → IsAtRest u.view words u.cells given
+rest_given v w u words spare left part cells quota count given s is among enough r =
+    let both : (c : ℕ) → times c spare ≡ times c left + times c u.cells = λ c. ap (times c) is ∙ times-append c left u.cells in
+    subst (λ (z : View). IsAtRest z words u.cells given) (sym s.given) (record {
+      some = r.some;
+      few = r.few;
+      rule = r.rule;
+      no_lock = refl;
+      none_under = refl;
+      todo_in = λ x p. r.todo_in x (let t = among x in omega arith);
+      ready = record {
+        long = r.ready.long;
+        held = λ c. omega arith;
+        once = λ c. let a = r.ready.once c in let b = both c in omega arith;
+        inside = λ c p. r.ready.inside c (let b = both c in omega arith);
+      };
+      stocked = enough;
+    })
+
+-- what a pass has counted stays with it, and the new one has counted nothing
+pub counted_kept : (v w : View) (given part : List ℕ) (quota published changes : ℕ) → IsCounted v published changes
+    → ((x : ℕ) → times x part ≤ times x v.todo) → w ≡ kept_part given part quota v → IsCounted w published changes
+counted_kept v w given part quota published changes h among e =
+    let n = length-without_all part v.todo among in
+    subst (λ (z : View). IsCounted z published changes) (sym e)
+    (record { todo_few = let f = h.todo_few in omega arith; bodies = h.bodies; publications = h.publications })
+
+pub counted_given : (v w : View) (given part : List ℕ) (quota published changes : ℕ) → IsCounted v published changes
+    → ((x : ℕ) → times x part ≤ times x v.todo) → w ≡ given_part given part quota v → IsCounted w 0 0
+counted_given v w given part quota published changes h among e =
+    let n = part_few v part among in
+    subst (λ (z : View). IsCounted z 0 0) (sym e) (record { todo_few = let f = h.todo_few in omega arith; bodies = refl; publications = refl })

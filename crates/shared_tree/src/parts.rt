@@ -1,0 +1,250 @@
+//! The parts of shared trees and of their passes.
+
+ghost use Rattle.std.specs.Prelude.{◌≡◌, ◌≢◌, ℕ, [], ◌∷◌, ◌+◌, ◌-◌, ◌<◌, ◌≤◌, ◌++◌, drop, length, IfNone, IfOk, IfSome, OnErr};
+ghost use Rattle.std.specs.Arc.{arc_value};
+ghost use Rattle.octant_code.specs.Points.{site_at};
+ghost use Rattle.octant_code.specs.Space.{IsUnder};
+ghost use Rattle.bh_model.specs.Bodies.{NoneTwice};
+ghost use Rattle.octree.specs.Stored.{IsBlankFrom, word_count};
+ghost use Rattle.tree_rule.specs.Words.{body_word};
+ghost use Rattle.tree_rule.specs.declared.words.TheConstants.{CELLS_OF_ONE, POOL_PLACE};
+ghost use Rattle.tree_passes.specs.declared.view.Writing.TheVariants.{UnderLocks};
+ghost use Rattle.tree_passes.specs.Counting.{times, without};
+ghost use Rattle.tree_passes.specs.Opening.{opening_of};
+ghost use Rattle.tree_passes.specs.Passes.{joined};
+ghost use Rattle.tree_passes.specs.Plays.{IsDrawn};
+ghost use Rattle.shared_tree.specs.Finding.{NamesNoneAt};
+ghost use Rattle.shared_tree.specs.Seen.{risen, seen_of, IsAtRest, IsCounted, IsOf, IsSplit};
+
+use crate::descent::insert;
+use crate::publisher::Publisher;
+use crate::search::find;
+use cell_pool::Region;
+use octant_code::{OutOfMemory, Point, Points, Steps};
+use std::marker::Model;
+use std::sync::Arc;
+use std::sync::ledger::Ledger;
+use tree_passes::{Pass, Tree, draw_cell, join_passes, split_pass};
+
+/// What a shared tree is made of: its table, its points, and the words to which closing copies those of
+/// the table. Contracts see it as a `SharedTree`.
+#[derive(Drop)]
+pub struct TreeParts {
+    pub(crate) table: Tree,
+    pub(crate) points: Arc<Points>,
+    pub(crate) words: Vec<u64>,
+    // from this cell on the words are 0
+    pub(crate) fresh: u32,
+}
+
+impl Model for TreeParts {
+    ghost use Rattle.std.specs.Prelude.{◌≡◌, ◌≤◌, length};
+    ghost use Rattle.std.specs.Arc.{arc_value};
+    ghost use Rattle.octree.specs.Stored.{IsBlankFrom, word_count};
+    ghost use Rattle.tree_passes.specs.Opening.{opening_of};
+    ghost use Rattle.shared_tree.specs.Seen.{SharedTree};
+
+    ghost Value = { SharedTree };
+
+    ghost view = { λ t. record { writing = t.table.shared.key.writing; table_id = t.table.shared.table_id; opening = opening_of t.table.shared.key } };
+
+    ghost invariant = { λ t. (t.table.shared.table_id.slots ≡ 0) × (arc_value t.points ≡ (opening_of t.table.shared.key).sites) × (length t.words.items ≡ t.table.shared.table_id.words) × IsBlankFrom t.words.items t.fresh × (word_count t.fresh ≤ length t.words.items) };
+}
+
+/// What a pass is made of: its seat, the cells of its region, how many bodies it put in, and how often
+/// it published, up to 2^64 - 1. Contracts see it as a `PartsOfPass`.
+#[derive(Drop)]
+pub struct PassParts {
+    pub(crate) seat: Pass,
+    pub(crate) region: Region,
+    pub(crate) published: u64,
+    pub(crate) changes: u64,
+}
+
+impl Model for PassParts {
+    ghost use Rattle.std.specs.Prelude.{◌≡◌, []};
+    ghost use Rattle.shared_tree.specs.Seen.{IsCounted, PartsOfPass};
+
+    ghost Value = { PartsOfPass };
+
+    ghost view = { λ p. record { table_id = p.seat.table_id; view = p.seat.me.0; cells = p.region.cells } };
+
+    ghost invariant = { λ p. (p.seat.me.1 ≡ []) × IsCounted p.seat.me.0 p.published p.changes };
+}
+
+impl TreeParts {
+    /// Puts a body of the todo list in with spare cells, and counts at most 66 steps. Returns how many of
+    /// them it took, from the front.
+    pub fn insert_with<P: Publisher, L: Ledger>(
+        &self,
+        publisher: &P,
+        pass: &mut PassParts,
+        spare: &[u32],
+        n: u32,
+        steps: &mut Steps<L>,
+    ) -> usize
+        requires writing { self.now.writing ≡ P.writing }
+        requires tree { IsOf (seen_of pass.old) self.now }
+        requires todo { 1 ≤ times n pass.old.view.todo }
+        requires rest { (count : ℕ) × IsAtRest pass.old.view pass.old.table_id.words spare.now count }
+        requires stock { CELLS_OF_ONE ≤ length spare.now }
+        ensures few { (result ≤ length spare.now) × (result ≤ CELLS_OF_ONE) }
+        ensures table { pass.new.table_id ≡ pass.old.table_id }
+        ensures cells { pass.new.cells ≡ pass.old.cells }
+        ensures quota { pass.new.view.quota ≡ pass.old.view.quota }
+        ensures put { seen_of pass.new ≡ record (seen_of pass.old) { todo = without n pass.old.view.todo; done = n ∷ pass.old.view.done; changes = pass.old.view.changes + 1; loads = pass.new.view.loads; last = pass.new.view.last } }
+        ensures rest { (count : ℕ) → IsAtRest pass.old.view pass.old.table_id.words spare.now count → IsAtRest pass.new.view pass.new.table_id.words (drop result spare.now) (count - CELLS_OF_ONE) }
+        ensures steps { steps.new ≤ steps.old + 66 }
+    {
+        let used = insert(
+            publisher,
+            &self.table.shared,
+            &mut pass.seat,
+            spare,
+            &self.points,
+            n,
+            steps,
+        );
+        pass.published = pass.published.saturating_add(1);
+        pass.changes = pass.changes.saturating_add(1);
+        used
+    }
+
+    /// The body at a point, by at most 22 steps.
+    pub fn find<L: Ledger>(
+        &self,
+        pass: &mut PassParts,
+        p: Point,
+        steps: &mut Steps<L>,
+    ) -> Option<u32>
+        requires tree { IsOf (seen_of pass.old) self.now }
+        requires rest { (spare : List ℕ) × (count : ℕ) × IsAtRest pass.old.view pass.old.table_id.words spare count }
+        ensures table { pass.new.table_id ≡ pass.old.table_id }
+        ensures cells { pass.new.cells ≡ pass.old.cells }
+        ensures quota { pass.new.view.quota ≡ pass.old.view.quota }
+        ensures some { IfSome result (λ b. site_at self.now.opening.sites b ≡ p) }
+        ensures seen { IfSome result (λ b. seen_of pass.new ≡ record (seen_of pass.old) { seen = b ∷ pass.old.view.seen; loads = pass.new.view.loads; last = pass.new.view.last }) }
+        ensures none { IfNone result ((x : ℕ) → 1 ≤ times x pass.old.view.done + times x pass.old.view.seen → site_at self.now.opening.sites x ≢ p) }
+        ensures stays { IfNone result (seen_of pass.new ≡ record (seen_of pass.old) { loads = pass.new.view.loads; last = pass.new.view.last }) }
+        ensures loaded { pass.old.view.loads < pass.new.view.loads }
+        ensures under { IsUnder pass.new.view.last.0 p }
+        ensures names { IfSome result (λ b. pass.new.view.last.1 ≡ body_word b) }
+        ensures names_none { IfNone result (NamesNoneAt self.now.opening.sites p pass.new.view.last.1) }
+        ensures rest { (spare : List ℕ) (count : ℕ) → IsAtRest pass.old.view pass.old.table_id.words spare count → IsAtRest pass.new.view pass.new.table_id.words spare count }
+        ensures steps { steps.new ≤ steps.old + 22 }
+    {
+        find(&self.table.shared, &mut pass.seat, &self.points, p, steps)
+    }
+
+    /// Splits bodies of the todo list off for a new pass, which gets the last so many cells of the region
+    /// and this quota.
+    ///
+    /// # Errors
+    ///
+    /// `OutOfMemory` for want of memory. Nothing changed then.
+    pub fn split(
+        &self,
+        pass: &mut PassParts,
+        part: &[u32],
+        cells: usize,
+        quota: u64,
+    ) -> Result<PassParts, OutOfMemory>
+        requires tree { IsOf (seen_of pass.old) self.now }
+        requires some { 0 < self.now.table_id.words }
+        requires part { (x : ℕ) → times x part.now ≤ times x pass.old.view.todo }
+        requires cells { cells ≤ length pass.old.cells }
+        requires held { (c : ℕ) → times c pass.old.cells ≤ times c pass.old.view.held }
+        requires quota { quota ≤ pass.old.view.quota }
+        ensures refused { OnErr result (pass.new ≡ pass.old) }
+        ensures split { IfOk result (λ r. IsSplit pass.old pass.new r part.now cells quota) }
+    {
+        let region = pass.region.split_off(cells)?;
+        let seat = split_pass(
+            &self.table.shared,
+            &mut pass.seat,
+            region.rest(),
+            part,
+            quota,
+        );
+        Ok(PassParts {
+            seat,
+            region,
+            published: 0,
+            changes: 0,
+        })
+    }
+
+    /// Takes in a pass that holds no lock and whose todo list is empty. The cells that it has left are
+    /// given up.
+    pub fn join(&self, into: &mut PassParts, from: PassParts)
+        requires tree { IsOf (seen_of into.old) self.now × IsOf (seen_of from) self.now }
+        requires some { 0 < self.now.table_id.words }
+        requires no_lock { from.view.locks ≡ [] }
+        requires empty { from.view.todo ≡ [] }
+        ensures { into.new ≡ record into.old { view = joined into.old.view from.view } }
+    {
+        let PassParts {
+            seat,
+            published,
+            changes,
+            ..
+        } = from;
+        into.published = into.published.saturating_add(published);
+        into.changes = into.changes.saturating_add(changes);
+        join_passes(&self.table.shared, &mut into.seat, seat);
+    }
+
+    /// Puts a body of the todo list in with cells of the pass's region, and counts at most 66 steps.
+    pub fn insert<P: Publisher, L: Ledger>(
+        &self,
+        publisher: &P,
+        pass: &mut PassParts,
+        n: u32,
+        steps: &mut Steps<L>,
+    )
+        requires writing { self.now.writing ≡ P.writing }
+        requires tree { IsOf (seen_of pass.old) self.now }
+        requires todo { 1 ≤ times n pass.old.view.todo }
+        requires rest { IsAtRest pass.old.view pass.old.table_id.words pass.old.cells (length pass.old.cells) }
+        ensures table { pass.new.table_id ≡ pass.old.table_id }
+        ensures quota { pass.new.view.quota ≡ pass.old.view.quota }
+        ensures put { seen_of pass.new ≡ record (seen_of pass.old) { todo = without n pass.old.view.todo; done = n ∷ pass.old.view.done; changes = pass.old.view.changes + 1; loads = pass.new.view.loads; last = pass.new.view.last } }
+        ensures rest { IsAtRest pass.new.view pass.new.table_id.words pass.new.cells (length pass.new.cells) }
+        ensures steps { steps.new ≤ steps.old + 66 }
+    {
+        let used = insert(
+            publisher,
+            &self.table.shared,
+            &mut pass.seat,
+            pass.region.rest(),
+            &self.points,
+            n,
+            steps,
+        );
+        pass.region.spend(used);
+        pass.published = pass.published.saturating_add(1);
+        pass.changes = pass.changes.saturating_add(1);
+    }
+}
+
+impl PassParts {
+    /// Draws a cell from the shared pool, which counts against the quota.
+    pub fn draw(&mut self, tree: &TreeParts) -> u32
+        requires locks { tree.now.writing ≡ UnderLocks }
+        requires tree { self.old.table_id ≡ tree.now.table_id }
+        requires pool { POOL_PLACE < tree.now.table_id.words }
+        requires quota { 1 ≤ self.old.view.quota }
+        ensures table { self.new.table_id ≡ self.old.table_id }
+        ensures cells { self.new.cells ≡ self.old.cells }
+        ensures drawn { IsDrawn self.old.view result self.new.view }
+    {
+        draw_cell(&tree.table.shared, &mut self.seat)
+    }
+
+    /// How many bodies it put in, and how often it published, up to 2^64 - 1.
+    pub(crate) fn counts(&self) -> (u64, u64)
+        ensures { (result.0 ≡ risen 0 (length self.now.view.done)) × (result.1 ≡ risen 0 self.now.view.changes) }
+    {
+        (self.published, self.changes)
+    }
+}
