@@ -7,12 +7,14 @@ use lib.ListN.{get_elem?}
 use Rattle.octant_code.specs.Points.{site_at}
 use Rattle.tree_rule.specs.Words.{HasBody, HasCell, IsReached, at_of, body_word, cell_word, child_place, key_place, lock_place}
 use Rattle.tree_rule.specs.Sound.{BodiesUnder}
-use Rattle.tree_rule.proofs.Laws.{bodies_of_stands}
+use Rattle.tree_rule.proofs.Laws.{bodies_of_stands, key_positive_of}
 use Rattle.octree.specs.Stored.{AreOctreeWords, IsBlankFrom, tree_with_used, word_count}
 use Rattle.tree_passes.specs.declared.view.TheConstants.{ROW_WORDS}
 use Rattle.tree_rule.specs.declared.words.TheConstants.{POOL_PLACE}
 use Rattle.tree_passes.specs.Opening.{Opening}
-use Rattle.tree_passes.specs.Ends.{AreGivenOut, IsClosed}
+use Rattle.tree_passes.specs.declared.view.Writing.{Writing}
+use Rattle.tree_passes.specs.declared.view.Writing.TheVariants.{ByExchange, UnderLocks}
+use Rattle.tree_passes.specs.Ends.{AreGivenOut, IsClosed, NoneLocked}
 use Rattle.tree_passes.proofs.Laws.{closed_moved, octree_of_closed}
 use Rattle.shared_tree.specs.Ends.{AreCopied, IsRowCopied, IsTreeAtEnd}
 
@@ -104,16 +106,34 @@ copied_more from before after next cells h r = record {
   rest = λ i l. r.rest i (omega arith) ∙ h.rest i (omega arith);
 }
 
+-- The cells that are reached are below the used ones: those that a pool gave out, or, where no pool word is set, all up to the last that has a key.
+pub used_reach : (o : Opening) (done seen ws : List ℕ) (w : Writing) (cells used : ℕ) → IsClosed o done seen ws → (w ≡ ByExchange → NoneLocked ws)
+    → (w ≡ UnderLocks → AreGivenOut ws) → length ws ≡ word_count cells → at_of ws POOL_PLACE ≤ used
+    → (at_of ws POOL_PLACE ≡ 0 → (c : ℕ) → used ≤ c → c < cells → at_of ws (key_place c) ≡ 0) → (c : ℕ) → HasCell ws c → c < used
+used_reach o done seen ws UnderLocks cells used h free given long pool none c r = let t = (given refl).reached c r in omega arith
+used_reach o done seen ws ByExchange cells used h free given long pool none c r = elim (cases_lt c used) [
+  | inl l ↦ l
+  | inr past ↦
+      let e = none (free refl cells long).third c past (let a = h.cells_held c r in let b = h.long in omega arith) in
+      let p = key_positive_of (site_at o.sites) (at_of ws) (at_of ws 0) 1 (HasCell ws) (HasBody ws) h.stand c r 0 e in
+      omega arith
+]
+
+-- and the table has those that a pool gave out
+pub given_within : (ws : List ℕ) (w : Writing) (cells : ℕ) → (w ≡ ByExchange → NoneLocked ws) → (w ≡ UnderLocks → AreGivenOut ws)
+    → length ws ≡ word_count cells → word_count (at_of ws POOL_PLACE) ≤ length ws
+given_within ws UnderLocks cells free given long = (given refl).within
+given_within ws ByExchange cells free given long = let t = (free refl cells long).third in omega arith
+
 -- What the copied words are: an octree's, closed as the table's were, and 0 from some cell on.
 pub record AreBack (o : Opening) (done seen us : List ℕ) (used : ℕ) : Type 0 where
   pub closed : IsClosed o done seen us
   pub octree : AreOctreeWords us
   pub blank : IsBlankFrom us used
 
-pub are_back : (o : Opening) (done seen ws old us : List ℕ) (used fresh : ℕ) → IsClosed o done seen ws → AreGivenOut ws → AreCopied ws old us used
-    → length old ≡ length ws → IsBlankFrom old fresh → fresh ≤ used → at_of ws POOL_PLACE ≤ used → AreBack o done seen us used
-are_back o done seen ws old us used fresh h g p long blank more given =
-    let below : (c : ℕ) → HasCell ws c → c < used = λ c r. let t = g.reached c r in omega arith in
+pub are_back : (o : Opening) (done seen ws old us : List ℕ) (used fresh : ℕ) → IsClosed o done seen ws → ((c : ℕ) → HasCell ws c → c < used)
+    → AreCopied ws old us used → length old ≡ length ws → IsBlankFrom old fresh → fresh ≤ used → AreBack o done seen us used
+are_back o done seen ws old us used fresh h below p long blank more =
     let back : IsClosed o done seen us =
     closed_moved o done seen ws us h (p.long ∙ long) p.root
     (λ c r.

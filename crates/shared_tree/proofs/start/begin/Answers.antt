@@ -1,0 +1,45 @@
+use Rattle.std.proofs.Common.{◌≡◌, ◌≤◌, ℕ, List, length, ap, sym, subst, refl, ◌∙◌, arith}
+use Rattle.std.specs.Arc.{arc_value}
+use Rattle.octant_code.specs.Space.{Site}
+use Rattle.octant_code.specs.declared.limits.TheConstants.{MOST_BODIES}
+use Rattle.tree_rule.proofs.Laws.{few_below}
+use Rattle.tree_passes.specs.declared.view.View.{View}
+use Rattle.tree_passes.specs.Opening.{Opening, fresh_view}
+use Rattle.shared_tree.specs.Seen.{IsAtRest, IsCounted}
+use Rattle.shared_tree.proofs.Starts.{rest_begun}
+use Rattle.shared_tree.proofs.start.begin.Goals.{In_ok-table}
+use Rattle.shared_tree.proofs.start.begin.Goals as goal
+
+-- what the tree is opened with
+abbrev opened : (c : In_ok-table) → Opening
+opened c = record { sites = arc_value c.args.points; words = c.args.words.items; todo = c.args.todo.now.items }
+
+-- the view of the first pass
+view : (c : In_ok-table) → c.in_ok-table.seat.me.0 ≡ fresh_view (opened c) c.args.deal.region.items c.args.deal.quota c.args.todo.now.items
+view c =
+    let e = c.in_ok-table.ensures in
+    ap (λ z. z.0) e.pass.1
+    ∙ ap (λ (o : Opening). fresh_view o c.args.deal.region.items c.args.deal.quota c.args.todo.now.items)
+    (e.opening ∙ ap (λ (z : List Site). record { sites = z; words = c.args.words.items; todo = c.args.todo.now.items }) c.deref.ensures)
+
+pub invariant_of-tree : goal.invariant_of-tree
+invariant_of-tree c =
+    let e = c.in_ok-table.ensures in
+    (e.counts.1, sym (ap (λ (o : Opening). o.sites) e.opening ∙ c.deref.ensures), e.long ∙ sym e.counts.0, e.blank c.args.fresh c.requires.fresh.0, omega (arith, e.long, c.requires.fresh.1))
+
+pub invariant_of-pass : goal.invariant_of-pass
+invariant_of-pass c =
+    let e = c.in_ok-table.ensures in
+    let todo = c.args.todo.now.items in
+    let r = c.requires.opens in
+    let few : length todo ≤ MOST_BODIES = omega (arith, few_below (length (arc_value c.args.points)) todo r.todo_once r.todo_in, r.points.few) in
+    (ap (λ z. z.1) e.pass.1, subst (λ (z : View). IsCounted z 0 0) (sym (view (goal.at.invariant_of-pass c).In_ok-table))
+    (record { todo_few = few; bodies = refl; publications = refl }))
+
+pub returns-clause-rest : goal.returns-clause-rest
+returns-clause-rest c = λ count enough.
+    let e = c.in_ok-table.ensures in
+    let d = (goal.at.returns-clause-rest c).In_ok-table in
+    let words : c.in_ok-table.seat.table_id.words ≡ length c.args.words.items = ap (λ z. z.words) e.pass.0 ∙ e.counts.0 in
+    subst (λ (z : View × ℕ). IsAtRest z.0 z.1 c.args.deal.region.items count) (λ i. (sym (view d) i, sym words i))
+    (rest_begun (arc_value c.args.points) c.args.words.items c.args.todo.now.items c.args.deal.region.items c.args.deal.quota count c.requires.opens enough)
