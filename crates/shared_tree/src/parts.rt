@@ -3,6 +3,7 @@
 ghost use Rattle.std.specs.Prelude.{◌≡◌, ◌≢◌, ℕ, [], ◌∷◌, ◌+◌, ◌-◌, ◌<◌, ◌≤◌, ◌++◌, List, drop, length, IfNone, IfOk, IfSome, OnErr};
 ghost use Rattle.std.specs.Arc.{arc_value};
 ghost use Rattle.octant_code.specs.Points.{site_at};
+ghost use Rattle.octant_code.specs.declared.limits.TheConstants.{MOST_BODIES};
 ghost use Rattle.octant_code.specs.Space.{IsUnder};
 ghost use Rattle.bh_model.specs.Bodies.{NoneTwice};
 ghost use Rattle.octree.specs.Stored.{IsBlankFrom, word_count};
@@ -239,6 +240,13 @@ impl PassParts {
         ensures drawn { IsDrawn self.old.view result self.new.view }
     {
         draw_cell(&tree.table.shared, &mut self.seat)
+    }
+
+    /// It is to put in no more bodies than there may be.
+    pub fn few_bodies(&self)
+        ensures { length self.now.view.todo ≤ MOST_BODIES }
+    {
+        let _counted = self.published;
     }
 
     /// How many bodies it put in, and how often it published, up to 2^64 - 1.
