@@ -16,6 +16,11 @@ length-without_all (x ∷ xs) l h =
     let w = length-without x l first in
     omega arith
 
+-- an empty list has no number
+pub none_in_none : (x : ℕ) (l : List ℕ) → length l ≡ 0 → times x l ≡ 0
+none_in_none x [] e = refl
+none_in_none x (y ∷ ys) e = absurd (omega arith)
+
 -- the bodies of a part are no more than those that are to be put in
 pub part_few : (v : View) (part : List ℕ) → ((x : ℕ) → times x part ≤ times x v.todo) → length part ≤ length v.todo
 part_few v part among = let n = length-without_all part v.todo among in omega arith

@@ -14,6 +14,7 @@ ghost use Rattle.tree_passes.specs.Counting.{times, without};
 ghost use Rattle.tree_passes.specs.Opening.{opening_of};
 ghost use Rattle.tree_passes.specs.Passes.{joined};
 ghost use Rattle.tree_passes.specs.Plays.{IsDrawn};
+ghost use Rattle.tree_passes.specs.Turns.{HasFound, HasNone};
 ghost use Rattle.shared_tree.specs.Finding.{NamesNoneAt};
 ghost use Rattle.shared_tree.specs.Seen.{risen, seen_of, IsAtRest, IsCounted, IsOf, IsSplit};
 
@@ -123,6 +124,8 @@ impl TreeParts {
         ensures table { pass.new.table_id ≡ pass.old.table_id }
         ensures cells { pass.new.cells ≡ pass.old.cells }
         ensures quota { pass.new.view.quota ≡ pass.old.view.quota }
+        ensures found { IfSome result (HasFound pass.old.view pass.new.view p) }
+        ensures missed { IfNone result (HasNone pass.old.view pass.new.view p) }
         ensures some { IfSome result (λ b. site_at self.now.opening.sites b ≡ p) }
         ensures seen { IfSome result (λ b. seen_of pass.new ≡ record (seen_of pass.old) { seen = b ∷ pass.old.view.seen; loads = pass.new.view.loads; last = pass.new.view.last }) }
         ensures none { IfNone result ((x : ℕ) → 1 ≤ times x pass.old.view.done + times x pass.old.view.seen → site_at self.now.opening.sites x ≢ p) }
@@ -154,7 +157,7 @@ impl TreeParts {
         requires some { 0 < self.now.table_id.words }
         requires part { (x : ℕ) → times x part.now ≤ times x pass.old.view.todo }
         requires cells { cells ≤ length pass.old.cells }
-        requires held { (c : ℕ) → times c pass.old.cells ≤ times c pass.old.view.held }
+        requires held { 0 < cells → (c : ℕ) → times c pass.old.cells ≤ times c pass.old.view.held }
         requires quota { quota ≤ pass.old.view.quota }
         ensures refused { OnErr result (pass.new ≡ pass.old) }
         ensures split { IfOk result (λ r. IsSplit pass.old pass.new r part.now cells quota) }

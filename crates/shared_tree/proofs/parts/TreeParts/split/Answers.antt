@@ -1,8 +1,9 @@
-use Rattle.std.proofs.Common.{◌≡◌, ℕ, ◌≤◌, ap, sym, subst, ◌∙◌, arith}
+use Rattle.std.proofs.Common.{◌≡◌, ℕ, ◌≤◌, ap, inl, inr, sym, subst, ◌∙◌, arith}
+use Rattle.std.proofs.lemmas.Bool.{cases_lt}
 use Rattle.tree_passes.specs.Counting.{times}
 use Rattle.tree_passes.proofs.Laws.{times-append}
 use Rattle.shared_tree.specs.Seen.{PartsOfPass}
-use Rattle.shared_tree.proofs.Rests.{counted_given, counted_kept}
+use Rattle.shared_tree.proofs.Rests.{counted_given, counted_kept, none_in_none}
 use Rattle.shared_tree.proofs.parts.TreeParts.split.Goals.{In_ok-region}
 use Rattle.shared_tree.proofs.parts.TreeParts.split.Goals as goal
 
@@ -12,10 +13,17 @@ among c = λ x. subst (λ (p : PartsOfPass). times x c.args.part.now ≤ times x
 
 pub split_pass-seat-requires-clause-cells : goal.split_pass-seat-requires-clause-cells
 split_pass-seat-requires-clause-cells c = λ x.
-    let h = subst (λ (p : PartsOfPass). times x p.cells ≤ times x p.view.held) (sym c.pass.view_is) (c.requires.held x) in
-    let s = ap (times x) c.in_ok-region.ensures.split.cells ∙ times-append x c.split_off.new.self.cells c.in_ok-region.region.cells in
     let e = ap (times x) c.rest.ensures in
-    omega (arith, h, s, e)
+    let p = c.in_ok-region.ensures.split in
+    let s = ap (times x) p.cells ∙ times-append x c.split_off.new.self.cells c.in_ok-region.region.cells in
+    elim (cases_lt 0 c.args.cells) [
+      | inl some ↦
+          let h = subst (λ (p : PartsOfPass). times x p.cells ≤ times x p.view.held) (sym c.pass.view_is) (c.requires.held some x) in
+          omega (arith, h, s, e)
+      | inr none ↦
+          let z = none_in_none x c.in_ok-region.region.cells (let n = p.count in omega arith) in
+          omega (arith, z, e)
+    ]
 
 pub invariant_of-result : goal.invariant_of-result
 invariant_of-result c =
