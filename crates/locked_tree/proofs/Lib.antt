@@ -1,8 +1,2 @@
-mod Copies
-mod Rests
-mod Starts
-mod Puts
-mod Resting
-mod Counted
-mod Whole
-pub mod Laws
+mod Publishes
+mod Stocks

@@ -1,4 +1,1 @@
-pub mod Ends
-pub mod Finding
-pub mod Inserting
-pub mod Seen
+pub mod Pools

@@ -1,9 +1,7 @@
 //! A shared octree whose published words are written under the locks of their cells.
 #![tactic(auto)]
 
-mod copy;
-mod find;
-mod insert;
+mod locking;
 mod source;
 mod stock;
 #[cfg(test)]

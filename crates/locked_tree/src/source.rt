@@ -1,87 +1,64 @@
 //! Where the cells of an insertion come from.
 
-ghost use Rattle.std.specs.Prelude.{◌≡◌, ◌≤◌};
+ghost use Rattle.std.specs.Prelude.{◌≡◌, ◌∷◌, ◌+◌, ◌<◌, ◌≤◌};
 ghost use Rattle.tree_passes.specs.declared.view.Writing.TheVariants.{UnderLocks};
-ghost use Rattle.tree_passes.specs.Counting.{times};
-ghost use Rattle.locked_tree.specs.declared.tree.Pool.TheVariants as pool_is;
-ghost use Rattle.locked_tree.specs.Inserting.{HasPut};
-ghost use Rattle.locked_tree.specs.Seen.{spare_of, IsAtRest};
+ghost use Rattle.tree_passes.specs.Counting.{times, without};
+ghost use Rattle.shared_tree.specs.Seen.{seen_of, IsAtRest, IsOf};
+ghost use Rattle.locked_tree.specs.Pools.{count_of, spare_of};
 
-use crate::insert::insert;
+use crate::locking::Locking;
 use crate::stock::{Stock, fill_up};
 use crate::tree::Pool;
-use cell_pool::Region;
-use octant_code::Points;
+use octant_code::Steps;
+use shared_tree::{PassParts, TreeParts};
 use std::sync::Wait;
-use tree_passes::{Pass, Words};
-
-/// Inserts a body of the todo list with cells of the pass's region.
-fn insert_own<R: Wait>(
-    rt: &R,
-    table: &Words,
-    pass: &mut Pass,
-    region: &mut Region,
-    points: &Points,
-    n: u32,
-)
-    requires locks { table.now.key.writing ≡ UnderLocks }
-    requires place { pass.old.table_id ≡ table.now.table_id }
-    requires points { pass.old.me.0.points ≡ points.now }
-    requires todo { 1 ≤ times n pass.old.me.0.todo }
-    requires rest { IsAtRest pass.old.me.0 table.now.table_id.words pool_is.Regions region.old.cells }
-    ensures pass { (pass.new.table_id ≡ pass.old.table_id) × (pass.new.me.1 ≡ pass.old.me.1) }
-    ensures rest { IsAtRest pass.new.me.0 table.now.table_id.words pool_is.Regions region.new.cells }
-    ensures put { HasPut pass.old.me.0 pass.new.me.0 n }
-{
-    let used = insert(rt, table, pass, region.rest(), points, n);
-    region.spend(used);
-}
+use std::sync::ledger::{Blank, Ledger};
 
 /// Inserts a body of the todo list with cells of the shared pool.
-fn insert_drawn<R: Wait>(
-    rt: &R,
-    table: &Words,
-    pass: &mut Pass,
+fn insert_drawn<R: Wait, L: Ledger>(
+    publisher: &Locking<R>,
+    tree: &TreeParts,
+    pass: &mut PassParts,
     stock: &mut Stock,
-    points: &Points,
     n: u32,
+    steps: &mut Steps<L>,
 )
-    requires locks { table.now.key.writing ≡ UnderLocks }
-    requires place { pass.old.table_id ≡ table.now.table_id }
-    requires points { pass.old.me.0.points ≡ points.now }
-    requires todo { 1 ≤ times n pass.old.me.0.todo }
-    requires rest { IsAtRest pass.old.me.0 table.now.table_id.words pool_is.Shared stock.old }
-    ensures pass { (pass.new.table_id ≡ pass.old.table_id) × (pass.new.me.1 ≡ pass.old.me.1) }
-    ensures rest { IsAtRest pass.new.me.0 table.now.table_id.words pool_is.Shared stock.new }
-    ensures put { HasPut pass.old.me.0 pass.new.me.0 n }
+    requires locks { tree.now.writing ≡ UnderLocks }
+    requires tree { IsOf (seen_of pass.old) tree.now }
+    requires todo { 1 ≤ times n pass.old.view.todo }
+    requires rest { IsAtRest pass.old.view pass.old.table_id.words stock.old pass.old.view.quota }
+    ensures put { seen_of pass.new ≡ record (seen_of pass.old) { todo = without n pass.old.view.todo; done = n ∷ pass.old.view.done; changes = pass.old.view.changes + 1; loads = pass.new.view.loads; last = pass.new.view.last } }
+    ensures rest { IsAtRest pass.new.view pass.new.table_id.words stock.new pass.new.view.quota }
 {
-    fill_up(table, pass, stock);
-    let used = insert(rt, table, pass, stock.rest(), points, n);
+    fill_up(tree, pass, stock);
+    let used = tree.insert_with(publisher, pass, stock.rest(), n, steps);
     stock.spend(used);
 }
 
-/// Inserts a body of the todo list with cells of where the pass has them.
-pub fn insert_from<R: Wait>(
+/// Inserts a body of the todo list with cells of where the pass has them. No caller sees the steps,
+/// which take no time.
+pub fn insert_from<R: Wait, L: Ledger>(
     rt: &R,
-    table: &Words,
-    pass: &mut Pass,
+    tree: &TreeParts,
+    pass: &mut PassParts,
     pool: Pool,
-    region: &mut Region,
     stock: &mut Stock,
-    points: &Points,
     n: u32,
+    blank: Blank,
 )
-    requires locks { table.now.key.writing ≡ UnderLocks }
-    requires place { pass.old.table_id ≡ table.now.table_id }
-    requires points { pass.old.me.0.points ≡ points.now }
-    requires todo { 1 ≤ times n pass.old.me.0.todo }
-    requires rest { IsAtRest pass.old.me.0 table.now.table_id.words pool (spare_of pool region.old.cells stock.old) }
-    ensures pass { (pass.new.table_id ≡ pass.old.table_id) × (pass.new.me.1 ≡ pass.old.me.1) }
-    ensures rest { IsAtRest pass.new.me.0 table.now.table_id.words pool (spare_of pool region.new.cells stock.new) }
-    ensures put { HasPut pass.old.me.0 pass.new.me.0 n }
+    requires name { blank.name ≡ L.name }
+    requires parts { (blank.parts ≡ L.parts) × (0 < blank.parts) }
+    requires locks { tree.now.writing ≡ UnderLocks }
+    requires tree { IsOf (seen_of pass.old) tree.now }
+    requires todo { 1 ≤ times n pass.old.view.todo }
+    requires rest { IsAtRest pass.old.view pass.old.table_id.words (spare_of pool pass.old.cells stock.old) (count_of pool pass.old.view.quota pass.old.cells) }
+    ensures put { seen_of pass.new ≡ record (seen_of pass.old) { todo = without n pass.old.view.todo; done = n ∷ pass.old.view.done; changes = pass.old.view.changes + 1; loads = pass.new.view.loads; last = pass.new.view.last } }
+    ensures rest { IsAtRest pass.new.view pass.new.table_id.words (spare_of pool pass.new.cells stock.new) (count_of pool pass.new.view.quota pass.new.cells) }
 {
+    let publisher = Locking { rt };
+    let mut steps = Steps::<L>::new(blank);
     match pool {
-        Pool::Shared => insert_drawn(rt, table, pass, stock, points, n),
-        Pool::Regions => insert_own(rt, table, pass, region, points, n),
+        Pool::Shared => insert_drawn(&publisher, tree, pass, stock, n, &mut steps),
+        Pool::Regions => tree.insert(&publisher, pass, n, &mut steps),
     }
 }

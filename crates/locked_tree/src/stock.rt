@@ -4,10 +4,10 @@ ghost use Rattle.std.specs.Prelude.{◌≡◌, ◌+◌, ◌<◌, ◌≤◌, [], 
 ghost use Rattle.tree_rule.specs.declared.words.TheConstants.{CELLS_OF_ONE, POOL_PLACE};
 ghost use Rattle.tree_passes.specs.declared.view.Writing.TheVariants.{UnderLocks};
 ghost use Rattle.tree_passes.specs.Making.{IsReady};
-ghost use Rattle.locked_tree.specs.Inserting.{HasDrawn};
+ghost use Rattle.locked_tree.specs.Pools.{HasDrawn};
 
+use shared_tree::{PassParts, TreeParts};
 use std::marker::Model;
-use tree_passes::{Pass, Words, draw_cell};
 use tree_rule::CELLS_OF_ONE;
 
 // The room for cells: a stock is filled up by 21 where it has fewer.
@@ -76,23 +76,24 @@ impl Stock {
 
 /// Sees to it that a stock has 21 cells. They are drawn 21 at a time, one after another, since passes
 /// that are at work at the same time disturb each other at the pool word.
-pub fn fill_up(table: &Words, pass: &mut Pass, stock: &mut Stock)
-    requires locks { table.now.key.writing ≡ UnderLocks }
-    requires place { pass.old.table_id ≡ table.now.table_id }
-    requires pool { POOL_PLACE < table.now.table_id.words }
-    requires quota { CELLS_OF_ONE ≤ pass.old.me.0.quota }
-    requires ready { IsReady pass.old.me.0 table.now.table_id.words stock.old }
-    ensures pass { (pass.new.table_id ≡ pass.old.table_id) × (pass.new.me.1 ≡ pass.old.me.1) }
-    ensures ready { IsReady pass.new.me.0 table.now.table_id.words stock.new }
+pub fn fill_up(tree: &TreeParts, pass: &mut PassParts, stock: &mut Stock)
+    requires locks { tree.now.writing ≡ UnderLocks }
+    requires place { pass.old.table_id ≡ tree.now.table_id }
+    requires pool { POOL_PLACE < tree.now.table_id.words }
+    requires quota { CELLS_OF_ONE ≤ pass.old.view.quota }
+    requires ready { IsReady pass.old.view tree.now.table_id.words stock.old }
+    ensures table { pass.new.table_id ≡ pass.old.table_id }
+    ensures cells { pass.new.cells ≡ pass.old.cells }
+    ensures ready { IsReady pass.new.view tree.now.table_id.words stock.new }
     ensures enough { CELLS_OF_ONE ≤ length stock.new }
     ensures few { length stock.new ≤ length stock.old + CELLS_OF_ONE }
-    ensures drawn { HasDrawn pass.old.me.0 pass.new.me.0 stock.old stock.new }
+    ensures drawn { HasDrawn pass.old.view pass.new.view stock.old stock.new }
 {
     if stock.len() >= CELLS_OF_ONE as usize {
         return;
     }
     for _ in 0..CELLS_OF_ONE {
-        let cell = draw_cell(table, pass);
+        let cell = pass.draw(tree);
         stock.put(cell);
     }
 }

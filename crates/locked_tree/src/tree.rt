@@ -1,23 +1,23 @@
 //! A shared octree, and the passes over it.
 
-ghost use Rattle.std.specs.Prelude.{◌≡◌, ◌≢◌, ℕ, [], ◌∷◌, ◌+◌, ◌<◌, ◌≤◌, ◌++◌, length, IfNone, IfOk, IfSome, OnErr, OnOk};
+ghost use Rattle.std.specs.Prelude.{◌≡◌, ◌≢◌, ℕ, [], ◌∷◌, ◌+◌, ◌<◌, ◌≤◌, ◌++◌, List, length, IfNone, IfOk, IfSome, OnErr, OnOk};
 ghost use Rattle.octant_code.specs.Points.{site_at};
 ghost use Rattle.octant_code.specs.declared.limits.TheConstants.{MOST_BODIES};
 ghost use Rattle.octant_code.specs.Space.{IsUnder};
 ghost use Rattle.tree_rule.specs.Words.{body_word};
 ghost use Rattle.tree_passes.specs.Counting.{times, without, without_all};
-ghost use Rattle.locked_tree.specs.Finding.{NamesNoneAt};
-ghost use Rattle.locked_tree.specs.Seen.{stock_of, IsOf, PassState, SharedTree};
+ghost use Rattle.shared_tree.specs.Finding.{NamesNoneAt};
+ghost use Rattle.shared_tree.specs.Seen.{seen_of, IsAtRest, IsOf, PassState, SharedTree};
+ghost use Rattle.tree_passes.specs.Turns.{HasFound, HasNone};
+ghost use Rattle.locked_tree.specs.Pools.{stock_of};
 
-use crate::find::find;
 use crate::source::insert_from;
 use crate::stock::Stock;
-use cell_pool::Region;
-use octant_code::{OutOfMemory, Point, Points};
-use std::alloc::Global;
-use std::marker::Model;
-use std::sync::{Arc, Wait};
-use tree_passes::{Pass, Tree, join_passes, split_pass};
+use octant_code::{OutOfMemory, Point, Steps};
+use shared_tree::{PassParts, TreeParts};
+use std::marker::{Brand, Model};
+use std::sync::Wait;
+use std::sync::ledger::{Blank, Ledger};
 use tree_rule::CELLS_OF_ONE;
 
 /// Where passes take the cells from that they publish.
@@ -30,55 +30,43 @@ pub enum Pool {
 }
 
 /// A shared octree, into which any number of passes insert at the same time. Contracts see it as a
-/// `SharedTree`: which table its words stand in, and what it was opened with.
+/// `SharedTree`: how its words are written, which table they stand in, and what it was opened with.
 #[derive(Drop)]
 pub struct LockedTree {
-    pub(crate) table: Tree,
-    pub(crate) points: Arc<Points>,
-    // the words that the table was opened with: closing puts those of the tree there
-    pub(crate) words: Vec<u64>,
-    // from this cell on they are 0
-    pub(crate) fresh: u32,
+    pub(crate) parts: TreeParts,
 }
 
 impl Model for LockedTree {
-    ghost use Rattle.std.specs.Prelude.{◌≡◌, ◌≤◌, length};
-    ghost use Rattle.octree.specs.Stored.{IsBlankFrom, word_count};
-    ghost use Rattle.std.specs.Arc.{arc_value};
+    ghost use Rattle.std.specs.Prelude.{◌≡◌};
     ghost use Rattle.tree_passes.specs.declared.view.Writing.TheVariants.{UnderLocks};
-    ghost use Rattle.tree_passes.specs.Opening.{opening_of};
-    ghost use Rattle.locked_tree.specs.Seen.{SharedTree};
+    ghost use Rattle.shared_tree.specs.Seen.{SharedTree};
 
     ghost Value = { SharedTree };
 
-    ghost view = { λ t. record { table_id = t.table.shared.table_id; opening = opening_of t.table.shared.key } };
+    ghost view = { λ t. t.parts };
 
-    ghost invariant = { λ t. (t.table.shared.key.writing ≡ UnderLocks) × (t.table.shared.table_id.slots ≡ 0) × (arc_value t.points ≡ (opening_of t.table.shared.key).sites) × (length t.words.items ≡ t.table.shared.table_id.words) × IsBlankFrom t.words.items t.fresh × (word_count t.fresh ≤ length t.words.items) };
+    ghost invariant = { λ t. t.parts.writing ≡ UnderLocks };
 }
 
 /// The right to put bodies into one shared octree. Contracts see it as a `PassState`: its tree's table
 /// and points, its lists, its counts, and the word that it loaded last.
 #[derive(Drop)]
 pub struct LockedPass {
-    pub(crate) seat: Pass,
+    pub(crate) parts: PassParts,
     pub(crate) pool: Pool,
-    pub(crate) region: Region,
     // with the shared pool, the cells that were drawn and not used yet
     pub(crate) stock: Stock,
-    // how many bodies it put in, and how often it published, up to 2^64 - 1
-    pub(crate) published: u64,
-    pub(crate) changes: u64,
 }
 
 impl Model for LockedPass {
-    ghost use Rattle.std.specs.Prelude.{◌≡◌, []};
-    ghost use Rattle.locked_tree.specs.Seen.{IsAtRest, IsCounted, PassState, spare_of, state_of};
+    ghost use Rattle.shared_tree.specs.Seen.{seen_of, IsAtRest, PassState};
+    ghost use Rattle.locked_tree.specs.Pools.{count_of, spare_of};
 
     ghost Value = { PassState };
 
-    ghost view = { λ p. state_of p.seat.table_id p.seat.me.0 };
+    ghost view = { λ p. seen_of p.parts };
 
-    ghost invariant = { λ p. (p.seat.me.1 ≡ []) × IsAtRest p.seat.me.0 p.seat.table_id.words p.pool (spare_of p.pool p.region.cells p.stock) × IsCounted p.seat.me.0 p.published p.changes };
+    ghost invariant = { λ p. IsAtRest p.parts.view p.parts.table_id.words (spare_of p.pool p.parts.cells p.stock) (count_of p.pool p.parts.view.quota p.parts.cells) };
 }
 
 /// The stock for so many bodies: how many cells of a region, and how large a quota.
@@ -93,6 +81,27 @@ pub(crate) fn stock_for(pool: Pool, bodies: usize) -> (usize, u64)
     }
 }
 
+// The body at a point. No caller sees the steps, which take no time.
+fn find_from<L: Ledger>(
+    tree: &TreeParts,
+    pass: &mut PassParts,
+    p: Point,
+    blank: Blank,
+) -> Option<u32>
+    requires name { blank.name ≡ L.name }
+    requires parts { (blank.parts ≡ L.parts) × (0 < blank.parts) }
+    requires tree { IsOf (seen_of pass.old) tree.now }
+    requires rest { (spare : List ℕ) × (count : ℕ) × IsAtRest pass.old.view pass.old.table_id.words spare count }
+    ensures table { pass.new.table_id ≡ pass.old.table_id }
+    ensures cells { pass.new.cells ≡ pass.old.cells }
+    ensures quota { pass.new.view.quota ≡ pass.old.view.quota }
+    ensures found { IfSome result (HasFound pass.old.view pass.new.view p) }
+    ensures missed { IfNone result (HasNone pass.old.view pass.new.view p) }
+    ensures rest { (spare : List ℕ) (count : ℕ) → IsAtRest pass.old.view pass.old.table_id.words spare count → IsAtRest pass.new.view pass.new.table_id.words spare count }
+{
+    tree.find(pass, p, &mut Steps::<L>::new(blank))
+}
+
 impl LockedTree {
     /// Puts a body of the pass's todo list into the tree. It may wait for locks, and takes no memory.
     pub fn insert<R: Wait>(&self, rt: &R, pass: &mut LockedPass, n: u32)
@@ -100,18 +109,15 @@ impl LockedTree {
         requires todo { 1 ≤ times n pass.old.todo }
         ensures { pass.new ≡ record pass.old { todo = without n pass.old.todo; done = n ∷ pass.old.done; changes = pass.old.changes + 1; loads = pass.new.loads; last = pass.new.last } }
     {
-        insert_from(
+        insert_from::<R, Brand>(
             rt,
-            &self.table.shared,
-            &mut pass.seat,
+            &self.parts,
+            &mut pass.parts,
             pass.pool,
-            &mut pass.region,
             &mut pass.stock,
-            &self.points,
             n,
+            Blank::new(1),
         );
-        pass.published = pass.published.saturating_add(1);
-        pass.changes = pass.changes.saturating_add(1);
     }
 
     /// The body at a point. It waits for nobody, and takes no memory.
@@ -130,7 +136,7 @@ impl LockedTree {
         ensures names { IfSome result (λ b. pass.new.last.1 ≡ body_word b) }
         ensures names_none { IfNone result (NamesNoneAt self.now.opening.sites p pass.new.last.1) }
     {
-        find(&self.table.shared, &mut pass.seat, &self.points, p)
+        find_from::<Brand>(&self.parts, &mut pass.parts, p, Blank::new(1))
     }
 
     /// Splits bodies of the todo list off for a new pass, which has seen what the old one has seen or
@@ -146,22 +152,13 @@ impl LockedTree {
         ensures kept { OnOk result (pass.new ≡ record pass.old { todo = without_all part.now pass.old.todo }) }
         ensures new { IfOk result (λ r. r ≡ record pass.old { todo = part.now; done = []; seen = pass.old.done ++ pass.old.seen; changes = 0; loads = 0; last = (0, 0) }) }
     {
+        pass.parts.few_bodies();
         let (cells, quota) = stock_for(pass.pool, part.len());
-        let region = pass.region.split_off(cells)?;
-        let seat = split_pass(
-            &self.table.shared,
-            &mut pass.seat,
-            region.rest(),
-            part,
-            quota,
-        );
+        let parts = self.parts.split(&mut pass.parts, part, cells, quota)?;
         Ok(LockedPass {
-            seat,
+            parts,
             pool: pass.pool,
-            region,
             stock: Stock::empty(),
-            published: 0,
-            changes: 0,
         })
     }
 
@@ -172,14 +169,6 @@ impl LockedTree {
         requires empty { from.todo ≡ [] }
         ensures { into.new ≡ record into.old { done = into.old.done ++ from.done; seen = into.old.seen ++ from.seen; changes = into.old.changes + from.changes } }
     {
-        let LockedPass {
-            seat,
-            published,
-            changes,
-            ..
-        } = from;
-        into.published = into.published.saturating_add(published);
-        into.changes = into.changes.saturating_add(changes);
-        join_passes(&self.table.shared, &mut into.seat, seat);
+        self.parts.join(&mut into.parts, from.parts);
     }
 }

@@ -1,89 +1,57 @@
-use Rattle.std.proofs.Common.{◌≡◌, ℕ, List, length, ap, sym, subst, ◌∙◌, arith}
+use Rattle.std.proofs.Common.{◌≡◌, ◌<◌, ◌≤◌, ◌∙◌, ℕ, List, length, ap, subst, sym, arith}
 use Rattle.tree_passes.specs.Counting.{times}
-use Rattle.tree_passes.specs.Passes.{given_part, kept_part}
-use Rattle.locked_tree.specs.Seen.{spare_of, stock_of, IsAtRest}
-use Rattle.locked_tree.proofs.Rests.{counted_given, counted_kept, given_held, part_few, part_in, rest_given, rest_kept, spare_given, spare_parts, stock_there}
+use Rattle.shared_tree.specs.Seen.{IsAtRest, IsSplit, PartsOfPass, PassState, seen_of}
+use Rattle.shared_tree.proofs.Laws.{part_few}
+use Rattle.locked_tree.specs.Pools.{count_of, spare_of}
+use Rattle.locked_tree.proofs.Stocks.{region_held, split_given, split_kept, stock_there}
 use Rattle.locked_tree.proofs.tree.LockedTree.split.Goals as goal
+
+-- the part's bodies are among those that the pass is to put in
+among : (seen : PassState) (v : PartsOfPass) (part : List ℕ) → seen_of v ≡ seen → ((x : ℕ) → times x part ≤ times x seen.todo)
+    → (x : ℕ) → times x part ≤ times x v.view.todo
+among seen v part e h x = subst (λ (p : PassState). times x part ≤ times x p.todo) (sym e) (h x)
 
 pub stock_for-cells-requires : goal.stock_for-cells-requires
 stock_for-cells-requires c =
-    let v = c.pass.inside.seat.me.0 in
-    let n = part_few v c.args.part.now (part_in _ v _ _ c.pass.view_is c.requires.part) in
-    let f = c.pass.invariant.2.todo_few in
-    record { few = omega arith }
+    let v = c.pass.inside.parts in
+    let n = part_few v.view c.args.part.now (among _ v _ c.pass.view_is c.requires.part) in
+    record { few = omega (arith, n, c.few_bodies.ensures) }
 
-pub split_off-requires : goal.split_off-requires
-split_off-requires c =
+pub split-requires-clause-cells : goal.split-requires-clause-cells
+split-requires-clause-cells c =
     let f = c.pass.inside in
-    let n = part_few f.seat.me.0 c.args.part.now (part_in _ f.seat.me.0 _ _ c.pass.view_is c.requires.part) in
-    let t = (stock_there f.pool f.seat.me.0.quota f.region.cells f.stock (length f.seat.me.0.todo) (length c.args.part.now) c.pass.invariant.1.stocked n).0 in
-    let e = ap (λ (z : ℕ × ℕ). z.0) c.stock_for-cells.ensures in
-    omega (arith, t, e)
+    let v = f.parts in
+    let n = part_few v.view c.args.part.now (among _ v _ c.pass.view_is c.requires.part) in
+    let t = (stock_there f.pool v.view.quota v.cells (length v.view.todo) (length c.args.part.now) c.pass.invariant.stocked n).0 in
+    omega (arith, t, ap (λ (z : ℕ × ℕ). z.0) c.stock_for-cells.ensures)
 
-pub split_pass-seat-requires-clause-cells : goal.split_pass-seat-requires-clause-cells
-split_pass-seat-requires-clause-cells c = λ x.
+pub split-requires-clause-held : goal.split-requires-clause-held
+split-requires-clause-held c = λ some.
     let f = c.pass.inside in
-    let kept = c.split_off.new.self.cells in
-    let given = c.in_ok-region.region.cells in
-    let count = c.in_ok-region.ensures.split.count ∙ ap (λ (z : ℕ × ℕ). z.0) c.stock_for-cells.ensures in
-    let parts = spare_parts f.pool f.region.cells kept given f.stock (length c.args.part.now) c.in_ok-region.ensures.split.cells count in
-    let t = given_held f.seat.me.0 f.seat.table_id.words f.pool (spare_of f.pool f.region.cells f.stock) (spare_of f.pool kept f.stock) given
-    c.pass.invariant.1 parts x in
-    let e = ap (times x) c.rest.ensures in
-    omega (arith, t, e)
+    region_held f.pool f.parts.view _ (length c.args.part.now) _ f.parts.cells f.stock c.pass.invariant
+    (subst (λ (z : ℕ × ℕ). 0 < z.0) c.stock_for-cells.ensures some)
 
-pub split_pass-seat-requires-clause-quota : goal.split_pass-seat-requires-clause-quota
-split_pass-seat-requires-clause-quota c =
+pub split-requires-clause-quota : goal.split-requires-clause-quota
+split-requires-clause-quota c =
     let f = c.pass.inside in
-    let n = part_few f.seat.me.0 c.args.part.now (part_in _ f.seat.me.0 _ _ c.pass.view_is c.requires.part) in
-    let t = (stock_there f.pool f.seat.me.0.quota f.region.cells f.stock (length f.seat.me.0.todo) (length c.args.part.now) c.pass.invariant.1.stocked n).1 in
-    let e = ap (λ (z : ℕ × ℕ). z.1) c.stock_for-cells.ensures in
-    omega (arith, t, e)
+    let v = f.parts in
+    let n = part_few v.view c.args.part.now (among _ v _ c.pass.view_is c.requires.part) in
+    let t = (stock_there f.pool v.view.quota v.cells (length v.view.todo) (length c.args.part.now) c.pass.invariant.stocked n).1 in
+    omega (arith, t, ap (λ (z : ℕ × ℕ). z.1) c.stock_for-cells.ensures)
 
 pub invariant_of-result : goal.invariant_of-result
 invariant_of-result c =
     let f = c.pass.inside in
-    let part = c.args.part.now in
-    let given = c.in_ok-region.region.cells in
-    let among = part_in f.seat.table_id f.seat.me.0 c.args.pass.now part c.pass.view_is c.requires.part in
-    let e = c.split_pass-seat.ensures.new in
-    let stock = c.stock_for-cells.ensures in
-    let view : c.split_pass-seat.result.me.0 ≡ given_part given part (stock_of f.pool (length part)).1 f.seat.me.0 =
-    ap (λ z. z.0) e.1 ∙ ap (λ (z : List ℕ). given_part z part c.stock_for-cells.result.1 f.seat.me.0) c.rest.ensures
-    ∙ ap (λ (z : ℕ × ℕ). given_part given part z.1 f.seat.me.0) stock in
-    let words : c.split_pass-seat.result.table_id.words ≡ f.seat.table_id.words = ap (λ z. z.words) e.0 in
-    let kept = c.split_off.new.self.cells in
-    let count = c.in_ok-region.ensures.split.count ∙ ap (λ (z : ℕ × ℕ). z.0) stock in
-    let parts = spare_parts f.pool f.region.cells kept given f.stock (length part) c.in_ok-region.ensures.split.cells count in
-    let own : given ≡ spare_of f.pool given c.empty.result =
-    spare_given f.pool given (length part) count ∙ ap (spare_of f.pool given) (sym c.empty.ensures) in (
-      ap (λ z. z.1) e.1,
-      subst (λ (z : ℕ × List ℕ). IsAtRest c.split_pass-seat.result.me.0 z.0 f.pool z.1) (λ i. (sym words i, own i))
-          (rest_given f.seat.me.0 c.split_pass-seat.result.me.0 f.seat.table_id.words f.pool (spare_of f.pool f.region.cells f.stock)
-          (spare_of f.pool kept f.stock) given part c.pass.invariant.1 parts among count view),
-      counted_given f.seat.me.0 c.split_pass-seat.result.me.0 given part (stock_of f.pool (length part)).1 f.published f.changes c.pass.invariant.2 among
-          view,
-    )
+    let v = f.parts in
+    let u = c.in_ok-parts.parts in
+    let s = subst (λ (z : ℕ × ℕ). IsSplit v c.split.new.pass u c.args.part.now z.0 z.1) c.stock_for-cells.ensures c.in_ok-parts.ensures.split in
+    subst (λ (z : List ℕ). IsAtRest u.view u.table_id.words (spare_of f.pool u.cells z) (count_of f.pool u.view.quota u.cells)) (sym c.empty.ensures)
+    (split_given f.pool v c.split.new.pass u c.args.part.now f.stock s (among _ v _ c.pass.view_is c.requires.part) c.pass.invariant)
 
 pub invariant_of-pass-2 : goal.invariant_of-pass-2
 invariant_of-pass-2 c =
     let f = c.pass.inside in
-    let part = c.args.part.now in
-    let given = c.in_ok-region.region.cells in
-    let among = part_in f.seat.table_id f.seat.me.0 c.args.pass.now part c.pass.view_is c.requires.part in
-    let e = c.split_pass-seat.ensures.old in
-    let stock = c.stock_for-cells.ensures in
-    let view : c.split_pass-seat.new.pass.me.0 ≡ kept_part given part (stock_of f.pool (length part)).1 f.seat.me.0 =
-    e.2 ∙ ap (λ (z : List ℕ). kept_part z part c.stock_for-cells.result.1 f.seat.me.0) c.rest.ensures
-    ∙ ap (λ (z : ℕ × ℕ). kept_part given part z.1 f.seat.me.0) stock in
-    let words : c.split_pass-seat.new.pass.table_id.words ≡ f.seat.table_id.words = ap (λ z. z.words) e.0 in
-    let kept = c.split_off.new.self.cells in
-    let count = c.in_ok-region.ensures.split.count ∙ ap (λ (z : ℕ × ℕ). z.0) stock in
-    let parts = spare_parts f.pool f.region.cells kept given f.stock (length part) c.in_ok-region.ensures.split.cells count in (
-      e.1 ∙ c.pass.invariant.0,
-      subst (λ (z : ℕ). IsAtRest c.split_pass-seat.new.pass.me.0 z f.pool (spare_of f.pool kept f.stock)) (sym words)
-          (rest_kept f.seat.me.0 c.split_pass-seat.new.pass.me.0 f.seat.table_id.words f.pool (spare_of f.pool f.region.cells f.stock)
-          (spare_of f.pool kept f.stock) given part c.pass.invariant.1 parts among count view),
-      counted_kept f.seat.me.0 c.split_pass-seat.new.pass.me.0 given part (stock_of f.pool (length part)).1 f.published f.changes
-          c.pass.invariant.2 among view,
-    )
+    let v = f.parts in
+    let u = c.in_ok-parts.parts in
+    let s = subst (λ (z : ℕ × ℕ). IsSplit v c.split.new.pass u c.args.part.now z.0 z.1) c.stock_for-cells.ensures c.in_ok-parts.ensures.split in
+    split_kept f.pool v c.split.new.pass u c.args.part.now f.stock s (among _ v _ c.pass.view_is c.requires.part) c.pass.invariant

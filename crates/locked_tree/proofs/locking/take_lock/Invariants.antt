@@ -1,5 +1,5 @@
 use Rattle.std.proofs.Common.{◌≡◌}
-use Rattle.locked_tree.proofs.insert.take_lock.Given as goal
+use Rattle.locked_tree.proofs.locking.take_lock.Given as goal
 
 abbrev pub invariant-loop : goal.invariant-loop
 invariant-loop g l =

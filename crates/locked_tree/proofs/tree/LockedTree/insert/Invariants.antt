@@ -1,0 +1,4 @@
+use Rattle.locked_tree.proofs.tree.LockedTree.insert.Given as goal
+
+abbrev pub ghosts-insert_from : goal.ghosts-insert_from
+ghosts-insert_from g a = record { name = a.blank.name; parts = a.blank.parts }
