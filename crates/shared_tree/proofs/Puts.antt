@@ -1,8 +1,6 @@
 -- Facts between the steps of an insertion.
 use Rattle.std.proofs.Common.{◌≡◌, ◌≢◌, ℕ, ◌+◌, ◌*◌, ◌^◌, ◌<◌, ◌≤◌, List, [], ◌∷◌, length, take, sym, refl, ap, ◌∙◌, subst, inl, arith}
 use Rattle.std.proofs.lemmas.List.{length-take-le}
-use mathlib.Core.Logic.{dite}
-use native.Mathlib.Decide.{ℕ_discrete}
 use Rattle.octant_code.specs.declared.limits.TheConstants.{LEVELS}
 use Rattle.octant_code.specs.Space.{Site, key_of, octant_of}
 use Rattle.octant_code.specs.Points.{site_at, ArePoints}
@@ -15,13 +13,13 @@ use Rattle.tree_rule.specs.declared.words.Named.TheVariants as named
 use Rattle.tree_rule.proofs.Laws.{ACell, NoBody, OneBody, WordIs, word_is}
 use Rattle.octree.specs.Stored.{word_count}
 use Rattle.tree_passes.specs.declared.view.View.{View}
-use Rattle.tree_passes.specs.Counting.{times, Has, without}
-use Rattle.tree_passes.specs.Locks.{IsLockOf, OfChild, OfRoot}
+use Rattle.tree_passes.specs.Counting.{times, without}
+use Rattle.tree_passes.specs.Locks.{OfChild, OfRoot}
 use Rattle.tree_passes.specs.Looks.{Looked, Tells}
 use Rattle.tree_passes.specs.Making.{HasWritten}
 use Rattle.tree_passes.specs.Passes.{KnowsPlace}
 use Rattle.tree_passes.specs.Turns.{Descends, IsFound, IsInserted, IsStill, IsThere}
-use Rattle.tree_passes.proofs.Laws.{cell_instead, descends_from, found_learnt, inserted_from, inserted_published, place_below, place_still, still_learnt, still_looked, still_on, still_written}
+use Rattle.tree_passes.proofs.Laws.{cell_instead, descends_from, found_learnt, inserted_from, inserted_published, place_below, place_still, still_learnt, still_on}
 use Rattle.shared_tree.specs.declared.publisher.Spot.{Spot}
 use Rattle.shared_tree.specs.declared.descent.Turn.{Turn}
 use Rattle.shared_tree.specs.declared.descent.Turn.TheVariants as turn

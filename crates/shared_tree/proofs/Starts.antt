@@ -5,7 +5,7 @@ use Rattle.std.proofs.lemmas.List.{get_or_past, get_or-replicate, get_or-append_
 use Rattle.octant_code.specs.Space.{Site}
 use Rattle.octant_code.specs.Points.{ArePoints, site_at}
 use Rattle.bh_model.specs.Bodies.{IsIn, NoneTwice}
-use Rattle.tree_rule.specs.declared.words.TheConstants.{MOST_CELLS, POOL_PLACE, CELLS_OF_ONE}
+use Rattle.tree_rule.specs.declared.words.TheConstants.{MOST_CELLS, CELLS_OF_ONE}
 use Rattle.bh_model.specs.Trees.{Tree, cell_count, order}
 use Rattle.bh_model.proofs.CellCounts.{cells_by_levels}
 use Rattle.bh_model.proofs.Lists.{in_append, none_twice-append}
@@ -16,7 +16,6 @@ use Rattle.octree.specs.Stored.{AreOctreeWords, IsBlankFrom, IsCanonical, IsStor
 use Rattle.tree_rule.proofs.Laws.{few_below, gives_own_order, order_has_none_twice, order_members, stands_of_sound}
 use Rattle.octree.proofs.Laws.{rising_once}
 use Rattle.tree_passes.specs.Counting.{numbers_from}
-use Rattle.tree_passes.specs.Making.{IsReady}
 use Rattle.tree_passes.specs.Opening.{fresh_view}
 use Rattle.tree_passes.specs.Ends.{CanOpen, CanPool}
 use Rattle.tree_passes.proofs.Laws.{once_times, times_in}

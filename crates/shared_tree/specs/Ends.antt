@@ -1,5 +1,5 @@
 -- What a tree is opened with, and what it is when it is closed.
-use Rattle.std.specs.Prelude.{ℕ, ◌≡◌, ◌+◌, ◌-◌, ◌*◌, ◌<◌, ◌≤◌, ◌⊎◌, ◌↔◌, List, [], ◌++◌, length}
+use Rattle.std.specs.Prelude.{ℕ, ◌≡◌, ◌+◌, ◌-◌, ◌<◌, ◌≤◌, ◌⊎◌, ◌↔◌, List, ◌++◌, length}
 use Rattle.bh_model.specs.Bodies.{IsIn, NoneTwice}
 use Rattle.tree_rule.specs.declared.words.TheConstants.{MOST_CELLS}
 use Rattle.tree_rule.specs.Words.{at_of, child_place, key_place, lock_place, HasBody, HasCell}

@@ -1,7 +1,6 @@
-use Rattle.std.proofs.Common.{◌≡◌, ◌-◌, ◌/◌, ◌≤◌, ◌<◌, ℕ, List, ◌++◌, length, take, drop, sym, ap, subst, ◌∙◌, arith}
+use Rattle.std.proofs.Common.{◌≡◌, ◌-◌, ◌/◌, ◌≤◌, ℕ, List, ◌++◌, length, take, drop, sym, ap, subst, ◌∙◌, arith}
 use Rattle.std.specs.Slots.{slots_items}
 use Rattle.octree.specs.Stored.{AreOctreeWords, IsBlankFrom, Stored, tree_with_used, word_count}
-use Rattle.tree_rule.specs.declared.words.TheConstants.{POOL_PLACE}
 use Rattle.tree_passes.specs.Counting.{times}
 use Rattle.tree_passes.specs.Opening.{opening_of}
 use Rattle.tree_passes.proofs.Laws.{times-append}
@@ -68,14 +67,29 @@ with_used-requires-clause-spare c =
 within : (c : After-free) → word_count c.max-used.result ≤ length c.copy_cells.new.out
 within c =
     let l = ap length c.deref_mut.ensures.value in
-    omega (arith, c.max-used.ensures, c.used_cells.ensures.within, c.tree.invariant.4, c.copy_cells.ensures.long, l, c.len.ensures, c.tree.inside.words.ok.0,
-    c.close-closed.ensures.closed.long, c.close-closed.ensures.counts.0, c.close-closed.result.words.ok.0, c.tree.invariant.2)
+    omega (
+      arith,
+      c.max-used.ensures,
+      c.used_cells.ensures.within,
+      c.tree.invariant.4,
+      c.copy_cells.ensures.long,
+      l,
+      c.len.ensures,
+      c.tree.inside.words.ok.0,
+      c.close-closed.ensures.closed.long,
+      c.close-closed.ensures.counts.0,
+      c.close-closed.result.words.ok.0,
+      c.tree.invariant.2,
+    )
 
 pub returns : goal.returns
 returns c =
     let at = (goal.at.returns c).After-free in
     let v = c.pass.inside.seat.me.0 in
     subst (λ (z : SharedTree × PartsOfPass × Stored). IsTreeAtEnd z.0.opening z.1.view.done z.1.view.seen z.2)
-    (λ i. (c.tree.view_is i, c.pass.view_is i,
-    sym (c.with_used.ensures.tree ∙ ap (λ (z : List ℕ). tree_with_used z c.max-used.result) (written at)) i))
+    (λ i. (
+      c.tree.view_is i,
+      c.pass.view_is i,
+      sym (c.with_used.ensures.tree ∙ ap (λ (z : List ℕ). tree_with_used z c.max-used.result) (written at)) i,
+    ))
     (tree_at_end (opening_of c.tree.inside.table.shared.key) v.done v.seen c.copy_cells.new.out c.max-used.result (back at) (within at))

@@ -1,4 +1,4 @@
-use Rattle.std.proofs.Common.{◌≡◌, ◌+◌, ◌*◌, ◌≤◌, []}
+use Rattle.std.proofs.Common.{◌≡◌, ◌+◌, ◌*◌, ◌≤◌}
 use Rattle.tree_passes.specs.Turns.{IsStill}
 use Rattle.shared_tree.specs.Inserting.{IsAt}
 use Rattle.shared_tree.proofs.descent.insert.Given as goal

@@ -1,10 +1,9 @@
-use Rattle.std.proofs.Common.{◌≡◌, ◌≢◌, ◌∙◌, ◌<◌, ◌^◌, ℕ, [], arith}
+use Rattle.std.proofs.Common.{◌≡◌, ◌≢◌, [], arith}
 use mathlib.Core.Logic.{dite}
 use native.Mathlib.Decide.{ℕ_discrete}
 use Rattle.octant_code.specs.Space.{key_of}
 use Rattle.octant_code.specs.Points.{site_at}
 use Rattle.tree_passes.proofs.Laws.{ready_alone, ready_still}
-use Rattle.shared_tree.specs.declared.descent.Turn.TheVariants as turn
 use Rattle.shared_tree.specs.Publishing.{HasFoundOther}
 use Rattle.shared_tree.proofs.Puts.{at_on, inserted_put, leads_still, other_below, other_found, other_small, other_still, put_with}
 use Rattle.shared_tree.proofs.descent.put_alone.Given.{Over}
@@ -22,7 +21,7 @@ publish-found-requires-clause-ready g c =
 -- another word was found
 other : (g : Over) (c : After-publish-found g) → c.publish-found.result ≢ 0
     → HasFoundOther c.args.pass.now.me.0 c.args.spot.word (key_of (site_at c.args.points.now c.args.n) c.args.spot.level) c.publish-found.result
-        c.publish-found.new.pass.me.0
+    c.publish-found.new.pass.me.0
 other g c full = c.publish-found.ensures.miss full _ c.requires.at.known
 
 pub named_by-requires : goal.named_by-requires

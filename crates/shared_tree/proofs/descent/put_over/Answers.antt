@@ -1,4 +1,4 @@
-use Rattle.std.proofs.Common.{◌≡◌, ◌∙◌, ◌-◌, ◌≤◌, ℕ, List, length, take, get_or, ap, sym, subst, arith}
+use Rattle.std.proofs.Common.{◌≡◌, ◌∙◌, ◌-◌, ◌≤◌, ℕ, length, take, get_or, ap, sym, subst, arith}
 use Rattle.octant_code.specs.declared.limits.TheConstants.{LEVELS}
 use Rattle.octant_code.specs.Space.{key_of}
 use Rattle.octant_code.specs.Points.{site_at}
@@ -7,7 +7,7 @@ use Rattle.tree_rule.specs.Words.{at_of, body_word, cell_word}
 use Rattle.tree_rule.specs.Flat.{StandsFor}
 use Rattle.octree.specs.Chain.{ArePair, IsOneOf}
 use Rattle.tree_passes.specs.Turns.{IsStill}
-use Rattle.tree_passes.proofs.Laws.{few_between, inserted_from, meets, place_still, ready_on, ready_over, some_held, still_on, still_written, there_still, todo_still}
+use Rattle.tree_passes.proofs.Laws.{few_between, meets, place_still, ready_on, ready_over, some_held, still_written, there_still, todo_still}
 use Rattle.shared_tree.specs.declared.descent.Turn.TheVariants as turn
 use Rattle.shared_tree.specs.Publishing.{HasFoundOther}
 use Rattle.shared_tree.proofs.Puts.{at_on, inserted_put, leads_still, names_cell, other_below, other_cell, other_small, put_taken, written_free}
@@ -67,15 +67,17 @@ returns-then-found-old-clause-turn g c =
     let few = few_between (site_at c.args.points.now c.args.x) (site_at c.args.points.now c.args.n) c.args.spot.level (LEVELS - c.args.spot.level) in
     let enough : c.part_two-used.result ≤ length c.args.spare.now = omega (arith, few, e.count, c.requires.stock) in
     leads_still c.args.pass.now.me.0 c.part_two-used.new.pass.me.0 _ c.args.n c.args.spare.now
-    (key_of (site_at c.args.points.now c.args.n) c.args.spot.level) (turn.Done c.part_two-used.result) (still g d)
-    (enough, put_taken _ _ c.args.n c.part_two-used.result c.args.spare.now (omega (arith, few, e.count)) enough
-    (inserted_put _ _ c.args.n _ (some_held _ _ _ c.part_two-used.result (ready_on _ _ _ _ _ e.wrote c.requires.ready))
-    (c.publish-found.ensures.hit (omega arith))))
+    (key_of (site_at c.args.points.now c.args.n) c.args.spot.level) (turn.Done c.part_two-used.result) (still g d) (
+      enough,
+      put_taken _ _ c.args.n c.part_two-used.result c.args.spare.now (omega (arith, few, e.count)) enough
+          (inserted_put _ _ c.args.n _ (some_held _ _ _ c.part_two-used.result (ready_on _ _ _ _ _ e.wrote c.requires.ready))
+          (c.publish-found.ensures.hit (omega arith))),
+    )
 
 -- another word was found
 other : (g : Over) (c : After-publish-found g) → (c.publish-found.result ≡ c.word_of_body-old.result → ⊥)
     → HasFoundOther c.part_two-used.new.pass.me.0 c.args.spot.word (key_of (site_at c.args.points.now c.args.n) c.args.spot.level) c.publish-found.result
-        c.publish-found.new.pass.me.0
+    c.publish-found.new.pass.me.0
 other g c apart = c.publish-found.ensures.miss apart _ (place_still _ _ _ _ (still_written _ _ _ c.part_two-used.ensures.wrote) c.requires.at.known)
 
 pub named_by-requires : goal.named_by-requires

@@ -32,9 +32,11 @@ invariant_of-pass c =
     let e = c.in_ok-table.ensures in
     let todo = c.args.todo.now.items in
     let r = c.requires.opens in
-    let few : length todo ≤ MOST_BODIES = omega (arith, few_below (length (arc_value c.args.points)) todo r.todo_once r.todo_in, r.points.few) in
-    (ap (λ z. z.1) e.pass.1, subst (λ (z : View). IsCounted z 0 0) (sym (view (goal.at.invariant_of-pass c).In_ok-table))
-    (record { todo_few = few; bodies = refl; publications = refl }))
+    let few : length todo ≤ MOST_BODIES = omega (arith, few_below (length (arc_value c.args.points)) todo r.todo_once r.todo_in, r.points.few) in (
+      ap (λ z. z.1) e.pass.1,
+      subst (λ (z : View). IsCounted z 0 0) (sym (view (goal.at.invariant_of-pass c).In_ok-table))
+          (record { todo_few = few; bodies = refl; publications = refl }),
+    )
 
 pub returns-clause-rest : goal.returns-clause-rest
 returns-clause-rest c = λ count enough.

@@ -1,4 +1,4 @@
-use Rattle.std.proofs.Common.{ℕ, List, ap, subst, sym, ◌∙◌}
+use Rattle.std.proofs.Common.{ℕ, ap, subst, sym, ◌∙◌}
 use Rattle.shared_tree.specs.Seen.{IsAtRest, PartsOfPass}
 use Rattle.shared_tree.proofs.Counted.{counted_sought}
 use Rattle.shared_tree.proofs.Resting.{rest_sought}

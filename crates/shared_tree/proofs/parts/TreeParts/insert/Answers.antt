@@ -1,4 +1,4 @@
-use Rattle.std.proofs.Common.{ℕ, ◌≡◌, ◌≤◌, List, ap, drop, length, subst, sym, take, ◌∙◌}
+use Rattle.std.proofs.Common.{ℕ, ◌≤◌, List, ap, length, subst, sym, take, ◌∙◌}
 use Rattle.tree_passes.specs.Counting.{times}
 use Rattle.shared_tree.specs.Inserting.{IsPutIn}
 use Rattle.shared_tree.specs.Seen.{IsAtRest, PartsOfPass}

@@ -1,4 +1,4 @@
-use Rattle.std.proofs.Common.{ℕ, ◌≡◌, ◌≤◌, ◌-◌, List, ap, drop, subst, sym, ◌∙◌}
+use Rattle.std.proofs.Common.{ℕ, ◌≤◌, ◌-◌, ap, drop, subst, sym, ◌∙◌}
 use Rattle.tree_rule.specs.declared.words.TheConstants.{CELLS_OF_ONE}
 use Rattle.tree_passes.specs.Counting.{times}
 use Rattle.shared_tree.specs.Seen.{IsAtRest, PartsOfPass}

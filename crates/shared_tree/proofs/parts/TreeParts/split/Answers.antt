@@ -1,4 +1,4 @@
-use Rattle.std.proofs.Common.{◌≡◌, ℕ, ◌≤◌, ap, inl, inr, sym, subst, ◌∙◌, arith}
+use Rattle.std.proofs.Common.{ℕ, ◌≤◌, ap, inl, inr, sym, subst, ◌∙◌, arith}
 use Rattle.std.proofs.lemmas.Bool.{cases_lt}
 use Rattle.tree_passes.specs.Counting.{times}
 use Rattle.tree_passes.proofs.Laws.{times-append}
@@ -28,13 +28,17 @@ split_pass-seat-requires-clause-cells c = λ x.
 pub invariant_of-result : goal.invariant_of-result
 invariant_of-result c =
     let f = c.pass.inside in
-    let e = c.split_pass-seat.ensures.new in
-    (ap (λ z. z.1) e.1, counted_given f.seat.me.0 c.split_pass-seat.result.me.0 c.rest.result.now c.args.part.now c.args.quota f.published f.changes c.pass.invariant.1
-    (among (goal.at.invariant_of-result c).In_ok-region) (ap (λ z. z.0) e.1))
+    let e = c.split_pass-seat.ensures.new in (
+      ap (λ z. z.1) e.1,
+      counted_given f.seat.me.0 c.split_pass-seat.result.me.0 c.rest.result.now c.args.part.now c.args.quota f.published f.changes c.pass.invariant.1
+          (among (goal.at.invariant_of-result c).In_ok-region) (ap (λ z. z.0) e.1),
+    )
 
 pub invariant_of-pass-2 : goal.invariant_of-pass-2
 invariant_of-pass-2 c =
     let f = c.pass.inside in
-    let e = c.split_pass-seat.ensures.old in
-    (e.1 ∙ c.pass.invariant.0, counted_kept f.seat.me.0 c.split_pass-seat.new.pass.me.0 c.rest.result.now c.args.part.now c.args.quota f.published f.changes c.pass.invariant.1
-    (among (goal.at.invariant_of-pass-2 c).In_ok-region) e.2)
+    let e = c.split_pass-seat.ensures.old in (
+      e.1 ∙ c.pass.invariant.0,
+      counted_kept f.seat.me.0 c.split_pass-seat.new.pass.me.0 c.rest.result.now c.args.part.now c.args.quota f.published f.changes c.pass.invariant.1
+          (among (goal.at.invariant_of-pass-2 c).In_ok-region) e.2,
+    )
