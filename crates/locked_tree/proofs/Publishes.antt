@@ -5,11 +5,11 @@ use Rattle.tree_rule.specs.declared.notes.BodyNote.{BodyNote}
 use Rattle.tree_passes.specs.declared.view.View.{View}
 use Rattle.tree_passes.specs.Counting.{times, Has}
 use Rattle.tree_passes.specs.Locks.{IsLock, IsLockOf, OfChild, OfRoot, CellsLock, RootsLock}
-use Rattle.tree_passes.specs.Looks.{Learns, Tells}
+use Rattle.tree_passes.specs.Looks.{Tells}
 use Rattle.tree_passes.specs.Passes.{after_publication, body_note, KnowsPlace, loaded, noted}
-use Rattle.tree_passes.specs.Plays.{changed, IsReadyFor, LookedUnder}
+use Rattle.tree_passes.specs.Plays.{IsReadyFor, LookedUnder}
 use Rattle.tree_passes.specs.Turns.{IsStill}
-use Rattle.tree_passes.proofs.Laws.{place_still, same-eq, still_looked}
+use Rattle.tree_passes.proofs.Laws.{same-eq, still_looked}
 use Rattle.shared_tree.specs.Publishing.{HasFoundOther, HasLearnt, HasPublished}
 
 -- the pass has the lock

@@ -11,8 +11,8 @@ use Rattle.tree_passes.specs.declared.view.View.{View}
 use Rattle.tree_passes.specs.Counting.{times, without}
 use Rattle.tree_passes.specs.Making.{IsReady}
 use Rattle.shared_tree.specs.Ends.{Serves}
-use Rattle.shared_tree.specs.Seen.{IsAtRest, IsSplit, PartsOfPass, PassState, seen_of, state_of}
-use Rattle.shared_tree.proofs.Laws.{part_few, region_enough, rest_given, rest_kept, rest_with, serves_region}
+use Rattle.shared_tree.specs.Seen.{IsAtRest, IsSplit, PartsOfPass, PassState, state_of}
+use Rattle.shared_tree.proofs.Laws.{region_enough, rest_given, rest_kept, serves_region}
 use Rattle.locked_tree.specs.declared.tree.Pool.{Pool}
 use Rattle.locked_tree.specs.declared.tree.Pool.TheVariants as pool
 use Rattle.locked_tree.specs.Pools.{AreDealtOut, HasDrawn, HasRoom, count_of, spare_of, stock_of}

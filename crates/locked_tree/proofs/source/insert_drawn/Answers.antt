@@ -1,9 +1,8 @@
-use Rattle.std.proofs.Common.{◌≡◌, ◌≤◌, ◌∙◌, ◌-◌, ◌*◌, ℕ, List, ap, drop, length, subst, sym, arith}
-use Rattle.tree_rule.specs.declared.words.TheConstants.{CELLS_OF_ONE}
+use Rattle.std.proofs.Common.{◌≤◌, ◌∙◌, ℕ, List, ap, drop, subst, sym, arith}
 use Rattle.tree_passes.specs.Counting.{times}
 use Rattle.tree_passes.specs.Making.{IsReady}
 use Rattle.tree_passes.specs.declared.view.View.{View}
-use Rattle.shared_tree.specs.Seen.{IsAtRest, IsOf, PassState, seen_of}
+use Rattle.shared_tree.specs.Seen.{IsAtRest, IsOf, PassState}
 use Rattle.shared_tree.proofs.Laws.{rest_with}
 use Rattle.locked_tree.proofs.Stocks.{drawn_seen, put_drawn, rest_drawn}
 use Rattle.locked_tree.proofs.source.insert_drawn.Given.{Over}
@@ -30,9 +29,11 @@ insert_with-used-requires-clause-todo g c =
     subst (λ (l : List ℕ). 1 ≤ times c.args.n l) (sym (ap (λ (z : View). z.todo) c.fill_up.ensures.drawn.view)) c.requires.todo
 
 pub insert_with-used-requires-clause-rest : goal.insert_with-used-requires-clause-rest
-insert_with-used-requires-clause-rest g c =
-    (c.args.pass.now.view.quota, subst (λ (z : List ℕ). IsAtRest c.fill_up.new.pass.view c.fill_up.new.pass.table_id.words z c.args.pass.now.view.quota)
-    (sym c.rest.ensures) (rest g (goal.at.insert_with-used-requires-clause-rest g c).After-fill_up))
+insert_with-used-requires-clause-rest g c = (
+  c.args.pass.now.view.quota,
+  subst (λ (z : List ℕ). IsAtRest c.fill_up.new.pass.view c.fill_up.new.pass.table_id.words z c.args.pass.now.view.quota)
+      (sym c.rest.ensures) (rest g (goal.at.insert_with-used-requires-clause-rest g c).After-fill_up),
+)
 
 pub returns-clause-put : goal.returns-clause-put
 returns-clause-put g c =

@@ -1,4 +1,4 @@
-use Rattle.std.proofs.Common.{◌≡◌, ◌∙◌, ℕ, [], ◌∷◌, ap, length, subst, sym}
+use Rattle.std.proofs.Common.{◌∙◌, ℕ, [], ◌∷◌, ap, subst}
 use Rattle.tree_passes.specs.Counting.{Has}
 use Rattle.tree_passes.specs.Plays.{LookedUnder}
 use Rattle.tree_passes.proofs.Laws.{place_still}

@@ -1,4 +1,4 @@
-use Rattle.std.proofs.Common.{◌≡◌, ◌<◌, ◌≤◌, ◌∙◌, ℕ, List, length, ap, subst, sym, arith}
+use Rattle.std.proofs.Common.{◌≡◌, ◌<◌, ◌≤◌, ℕ, List, length, ap, subst, sym, arith}
 use Rattle.tree_passes.specs.Counting.{times}
 use Rattle.shared_tree.specs.Seen.{IsAtRest, IsSplit, PartsOfPass, PassState, seen_of}
 use Rattle.shared_tree.proofs.Laws.{part_few}

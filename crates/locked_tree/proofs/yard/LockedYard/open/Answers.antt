@@ -1,9 +1,8 @@
-use Rattle.std.proofs.Common.{◌≡◌, ◌*◌, ◌≤◌, ℕ, List, length, sym, subst, arith}
+use Rattle.std.proofs.Common.{ℕ, List, length, sym, subst, arith}
 use Rattle.std.specs.Arc.{arc_value}
 use Rattle.octant_code.specs.Points.{ArePoints}
 use Rattle.tree_rule.proofs.Laws.{few_below}
 use Rattle.octree.specs.Stored.{IsStored}
-use Rattle.shared_tree.specs.Ends.{Serves}
 use Rattle.shared_tree.specs.Seen.{IsAtRest}
 use Rattle.shared_tree.proofs.Laws.{room_of_regions}
 use Rattle.locked_tree.specs.Pools.{count_of, spare_of}
