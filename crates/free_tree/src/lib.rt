@@ -1,0 +1,9 @@
+//! An octree in shared words without locks, into which any number of passes insert at the same time.
+#![tactic(auto)]
+
+mod exchanger;
+mod tree;
+mod yard;
+
+pub use tree::{FreePass, FreeTree};
+pub use yard::FreeYard;

@@ -1,0 +1,120 @@
+//! A shared octree without locks, and the passes over it.
+
+ghost use Rattle.std.specs.Prelude.{◌≡◌, ◌≢◌, ℕ, [], ◌∷◌, ◌+◌, ◌<◌, ◌≤◌, ◌++◌, IfNone, IfOk, IfSome, OnErr, OnOk};
+ghost use Rattle.octant_code.specs.Points.{site_at};
+ghost use Rattle.octant_code.specs.Space.{IsUnder};
+ghost use Rattle.tree_rule.specs.Words.{body_word};
+ghost use Rattle.tree_passes.specs.Counting.{times, without, without_all};
+ghost use Rattle.shared_tree.specs.Finding.{NamesNoneAt};
+ghost use Rattle.shared_tree.specs.Seen.{IsOf, PassState, SharedTree};
+
+use crate::exchanger::Exchanger;
+use octant_code::{OutOfMemory, Point, Steps};
+use shared_tree::{PassParts, TreeParts};
+use std::marker::Model;
+use std::sync::ledger::Ledger;
+use tree_rule::CELLS_OF_ONE;
+
+/// A shared octree, into which any number of passes insert at the same time, and none of them waits.
+/// Contracts see it as a `SharedTree`: which table its words stand in, and what it was opened with.
+#[derive(Drop)]
+pub struct FreeTree {
+    pub(crate) parts: TreeParts,
+}
+
+impl Model for FreeTree {
+    ghost use Rattle.std.specs.Prelude.{◌≡◌};
+    ghost use Rattle.tree_passes.specs.declared.view.Writing.TheVariants.{ByExchange};
+    ghost use Rattle.shared_tree.specs.Seen.{SharedTree};
+
+    ghost Value = { SharedTree };
+
+    ghost view = { λ t. t.parts };
+
+    ghost invariant = { λ t. t.parts.writing ≡ ByExchange };
+}
+
+/// The right to put bodies into one shared octree. Contracts see it as a `PassState`: its tree's table
+/// and points, its lists, its counts, and the word that it loaded last.
+#[derive(Drop)]
+pub struct FreePass {
+    pub(crate) parts: PassParts,
+}
+
+impl Model for FreePass {
+    ghost use Rattle.std.specs.Prelude.{length};
+    ghost use Rattle.shared_tree.specs.Seen.{seen_of, IsAtRest, PassState};
+
+    ghost Value = { PassState };
+
+    ghost view = { λ p. seen_of p.parts };
+
+    ghost invariant = { λ p. IsAtRest p.parts.view p.parts.table_id.words p.parts.cells (length p.parts.cells) };
+}
+
+impl FreeTree {
+    /// Puts a body of the pass's todo list into the tree, by at most 66 steps. It waits for nobody, and
+    /// takes no memory.
+    pub fn insert<L: Ledger>(&self, pass: &mut FreePass, n: u32, steps: &mut Steps<L>)
+        requires tree { IsOf pass.old self.now }
+        requires todo { 1 ≤ times n pass.old.todo }
+        ensures pass { pass.new ≡ record pass.old { todo = without n pass.old.todo; done = n ∷ pass.old.done; changes = pass.old.changes + 1; loads = pass.new.loads; last = pass.new.last } }
+        ensures steps { steps.new ≤ steps.old + 66 }
+    {
+        self.parts.insert(&Exchanger, &mut pass.parts, n, steps);
+    }
+
+    /// The body at a point, by at most 22 steps. It waits for nobody, and takes no memory.
+    ///
+    /// A body that it answers is in the tree, and the pass has seen it from then on. None says that no
+    /// body that the pass had done or seen has the point. Either answer rests on the word that this
+    /// call loaded last.
+    pub fn find<L: Ledger>(
+        &self,
+        pass: &mut FreePass,
+        p: Point,
+        steps: &mut Steps<L>,
+    ) -> Option<u32>
+        requires tree { IsOf pass.old self.now }
+        ensures some { IfSome result (λ b. site_at self.now.opening.sites b ≡ p) }
+        ensures seen { IfSome result (λ b. pass.new ≡ record pass.old { seen = b ∷ pass.old.seen; loads = pass.new.loads; last = pass.new.last }) }
+        ensures none { IfNone result ((x : ℕ) → 1 ≤ times x pass.old.done + times x pass.old.seen → site_at self.now.opening.sites x ≢ p) }
+        ensures stays { IfNone result (pass.new ≡ record pass.old { loads = pass.new.loads; last = pass.new.last }) }
+        ensures loaded { pass.old.loads < pass.new.loads }
+        ensures under { IsUnder pass.new.last.0 p }
+        ensures names { IfSome result (λ b. pass.new.last.1 ≡ body_word b) }
+        ensures names_none { IfNone result (NamesNoneAt self.now.opening.sites p pass.new.last.1) }
+        ensures steps { steps.new ≤ steps.old + 22 }
+    {
+        self.parts.find(&mut pass.parts, p, steps)
+    }
+
+    /// Splits bodies of the todo list off for a new pass, which has seen what the old one has seen or
+    /// done.
+    ///
+    /// # Errors
+    ///
+    /// `OutOfMemory` for want of memory. Nothing changed then.
+    pub fn split(&self, pass: &mut FreePass, part: &[u32]) -> Result<FreePass, OutOfMemory>
+        requires tree { IsOf pass.old self.now }
+        requires part { (x : ℕ) → times x part.now ≤ times x pass.old.todo }
+        ensures refused { OnErr result (pass.new ≡ pass.old) }
+        ensures kept { OnOk result (pass.new ≡ record pass.old { todo = without_all part.now pass.old.todo }) }
+        ensures new { IfOk result (λ r. r ≡ record pass.old { todo = part.now; done = []; seen = pass.old.done ++ pass.old.seen; changes = 0; loads = 0; last = (0, 0) }) }
+    {
+        pass.parts.few_bodies();
+        let cells = CELLS_OF_ONE as usize * part.len();
+        let parts = self.parts.split(&mut pass.parts, part, cells, 0)?;
+        Ok(FreePass { parts })
+    }
+
+    /// Takes in a pass whose todo list is empty. The cells that it has left are given up. It takes no
+    /// memory.
+    pub fn join(&self, into: &mut FreePass, from: FreePass)
+        requires tree { IsOf into.old self.now × IsOf from self.now }
+        requires empty { from.todo ≡ [] }
+        ensures { into.new ≡ record into.old { done = into.old.done ++ from.done; seen = into.old.seen ++ from.seen; changes = into.old.changes + from.changes } }
+    {
+        self.parts.join(&mut into.parts, from.parts);
+    }
+}
