@@ -2,6 +2,8 @@
 #![tactic(auto)]
 
 mod exchanger;
+#[cfg(test)]
+mod tests;
 mod tree;
 mod yard;
 
