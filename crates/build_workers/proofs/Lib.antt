@@ -1,0 +1,4 @@
+mod Sharing
+mod Dealing
+mod Taken
+pub mod Laws

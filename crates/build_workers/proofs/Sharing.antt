@@ -1,0 +1,29 @@
+-- Counting over shares and workers.
+use Rattle.std.proofs.Common.{◌≡◌, ◌<◌, ◌≤◌, ℕ, suc, List, [], ◌∷◌, length, inl, inr, refl, sym, ◌∙◌, arith}
+use Rattle.std.proofs.lemmas.Bool.{cases_lt}
+use Rattle.bh_model.specs.Bodies.{numbers}
+use Rattle.bh_model.proofs.Lists.{in_numbers, numbers_once}
+use Rattle.tree_passes.specs.Counting.{sum_of, times}
+use Rattle.tree_passes.proofs.Laws.{in_times, once_times, times_in}
+use Rattle.build_workers.specs.Shares.{times_in_all, AreShares}
+
+-- A list has each number below a count once, and no other.
+pub record HasEach (count : ℕ) (l : List ℕ) : Type 0 where
+  pub once : (x : ℕ) → x < count → times x l ≡ 1
+  pub no_other : (x : ℕ) → count ≤ x → times x l ≡ 0
+
+-- the numbers below a count
+pub each_of_numbers : (count : ℕ) → HasEach count (numbers count)
+each_of_numbers count = record {
+  once = λ x s. let a = in_times x (numbers count) ((in_numbers count x).1 s) in let b = once_times (numbers count) (numbers_once count) x in omega arith;
+  no_other = λ x s. elim (cases_lt 0 (times x (numbers count))) [
+    | inl some ↦ let l : x < count = (in_numbers count x).0 (times_in x (numbers count) (omega arith)) in absurd (omega arith)
+    | inr none ↦ omega arith
+  ];
+}
+
+-- the shares hold what the numbers below the count are
+pub shares_part : (count x : ℕ) (shares : List (List ℕ)) → AreShares count shares → times x (numbers count) ≡ times_in_all x shares
+shares_part count x shares h =
+    let n = each_of_numbers count in
+    elim (cases_lt x count) [ inl s ↦ n.once x s ∙ sym (h.once x s) | inr s ↦ n.no_other x s ∙ sym (h.no_other x s) ]

@@ -1,0 +1,14 @@
+//! What the builders of a shared tree have in common: workers that put shares of bodies in at the same
+//! time.
+#![tactic(auto)]
+
+mod hands;
+mod numbers;
+mod passes;
+mod work;
+mod workers;
+
+pub use numbers::{deal_in_turns, first_numbers};
+pub use passes::{SharedInsert, SharedPasses};
+pub use work::{InsertEach, Work};
+pub use workers::work_shares;
