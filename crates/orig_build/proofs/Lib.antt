@@ -1,4 +1,0 @@
-mod Sharing
-mod Dealing
-mod Taken
-pub mod Laws

@@ -2,13 +2,13 @@
 
 ghost use Rattle.std.specs.Prelude.{◌≡◌, length, map, IfOk, OnErr, OnOk};
 ghost use Rattle.std.specs.Arc.{arc_value};
-ghost use Rattle.bh_model.specs.Bodies.{numbers};
 ghost use Rattle.octree.specs.Stored.{IsOctreeOf};
-ghost use Rattle.locked_tree.specs.Seen.{risen};
-ghost use Rattle.orig_build.specs.Shares.{AreShares};
+ghost use Rattle.shared_tree.specs.Seen.{risen};
+ghost use Rattle.build_workers.specs.Shares.{AreShares};
 
-use crate::hands::{deal_hands, join_hands, work_all};
+use crate::under_locks::UnderLocks;
 use build_gate::Gate;
+use build_workers::{InsertEach, first_numbers, work_shares};
 use locked_tree::{LockedYard, Pool};
 use octant_code::{OutOfMemory, Points};
 use octree::Octree;
@@ -41,22 +41,10 @@ pub fn build<R: Threads + Wait + Sync, G: Gate>(
     let todo = first_numbers(alloc, points.len())?;
     let start = Octree::empty(alloc, 0)?;
     let (tree, mut pass) = yard.open(alloc, points, start, &todo, Pool::Shared)?;
-    let mut hands = deal_hands(alloc, &tree, &mut pass, shares)?;
-    work_all(rt, &tree, hands.as_mut_slice(), gate);
-    join_hands(&tree, &mut pass, hands);
+    let shared = UnderLocks { rt, tree: &tree };
+    work_shares(rt, alloc, &shared, &mut pass, shares, &InsertEach, gate)?;
     let octree = yard.close(tree, pass);
     octree.canonical_tree(points);
     let _whole = octree.whole();
     Ok(octree)
-}
-
-/// The numbers below a number.
-fn first_numbers(alloc: Global, count: u32) -> Result<Vec<u32>, OutOfMemory>
-    ensures { IfOk result (λ v. v.items ≡ numbers count) }
-{
-    let mut list = Vec::with_capacity(alloc, count as usize)?;
-    for n in 0..count {
-        list.push(n)?;
-    }
-    Ok(list)
 }

@@ -2,8 +2,8 @@
 #![tactic(auto)]
 
 mod builder;
-mod hands;
 #[cfg(test)]
 mod tests;
+mod under_locks;
 
 pub use builder::build;
