@@ -5,6 +5,7 @@
 mod hands;
 mod numbers;
 mod passes;
+pub mod trial;
 mod work;
 mod workers;
 
