@@ -1,9 +1,9 @@
 -- Counting over shares and workers.
-use Rattle.std.proofs.Common.{◌≡◌, ◌<◌, ◌≤◌, ℕ, suc, List, [], ◌∷◌, length, inl, inr, refl, sym, ◌∙◌, arith}
+use Rattle.std.proofs.Common.{◌≡◌, ◌<◌, ◌≤◌, ℕ, List, inl, inr, sym, ◌∙◌, arith}
 use Rattle.std.proofs.lemmas.Bool.{cases_lt}
 use Rattle.bh_model.specs.Bodies.{numbers}
 use Rattle.bh_model.proofs.Lists.{in_numbers, numbers_once}
-use Rattle.tree_passes.specs.Counting.{sum_of, times}
+use Rattle.tree_passes.specs.Counting.{times}
 use Rattle.tree_passes.proofs.Laws.{in_times, once_times, times_in}
 use Rattle.build_workers.specs.Shares.{times_in_all, AreShares}
 

@@ -1,6 +1,5 @@
 -- The pass that has taken all workers in.
-use Rattle.std.proofs.Common.{◌≡◌, ◌+◌, ◌<◌, ℕ, suc, List, [], ◌∷◌, ◌++◌, length, map, take, drop, refl, sym, subst, ◌∙◌, ap, arith, append-nil}
-use Rattle.std.specs.Prelude.{slice_index_or, All}
+use Rattle.std.proofs.Common.{◌≡◌, ◌+◌, ℕ, suc, List, [], ◌∷◌, ◌++◌, length, map, take, drop, refl, sym, subst, ◌∙◌, ap, arith, append-nil}
 use Rattle.std.proofs.lemmas.List.{drop_all, take_all}
 use Rattle.tree_passes.specs.Counting.{all_of, sum_of, times}
 use Rattle.tree_passes.proofs.Laws.{sum_of-map, times-all_of}
@@ -8,7 +7,7 @@ use Rattle.shared_tree.specs.Seen.{IsOf, PassState, SharedTree}
 use Rattle.build_workers.specs.declared.hands.Hand.{Hand}
 use Rattle.build_workers.specs.Shares.{times_in_all}
 use Rattle.build_workers.specs.Hands.{joined_with, AreDealt, AreSpent, EachIsDone}
-use Rattle.build_workers.specs.Working.{HasPutShares, IsDone, IsSpent, IsSumFor}
+use Rattle.build_workers.specs.Working.{HasPutShares, IsSumFor}
 
 -- Workers have put in what shares hold, by so many publications as they may need for it.
 pub record AreAllDone {P : Type 0} (state : P → PassState) (t : SharedTree) (may : List ℕ → ℕ → Type 0) (shares : List (List ℕ))

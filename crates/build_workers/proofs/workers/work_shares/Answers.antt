@@ -1,4 +1,4 @@
-use Rattle.std.proofs.Common.{◌≡◌, ℕ, List, length, map, subst, ap, ◌∙◌, take, drop, ◌++◌, arith}
+use Rattle.std.proofs.Common.{length, map, subst, ap, ◌∙◌, take, drop, ◌++◌, arith}
 use Rattle.tree_passes.specs.Counting.{times}
 use Rattle.tree_passes.proofs.Laws.{sum_of-map}
 use Rattle.build_workers.specs.Hands.{EachIsDone}
