@@ -1,9 +1,8 @@
-use Rattle.std.proofs.Common.{◌≡◌, ℕ, List, length, map, sym, subst, ap, ◌∙◌, arith}
+use Rattle.std.proofs.Common.{◌≡◌, ℕ, List, length, map, sym, subst, ap, ◌∙◌}
 use Rattle.std.specs.Arc.{arc_value}
 use Rattle.octant_code.specs.Space.{Site}
 use Rattle.bh_model.specs.Bodies.{IsIn, NoneTwice, numbers}
 use Rattle.bh_model.proofs.Lists.{in_numbers, numbers_once}
-use Rattle.bh_model.proofs.Standing.{length_numbers}
 use Rattle.octree.specs.Stored.{IsOctreeOf}
 use Rattle.tree_passes.specs.Counting.{times}
 use Rattle.octree.proofs.Laws.{empty_canonical}
