@@ -4,12 +4,12 @@
 //!
 //! It reads a scene, builds the octree of its bodies in rounds, and tells on standard error the times in
 //! nanoseconds, each on a line with its name. In each round come, one after another, `Octree::of_points`
-//! (`sorted`), insertion by one thread in the order of the bodies' numbers (`plain`), and the builder
-//! ORIG with 1, 2 and 4 workers, whose shares are those of the first frame. A builder's phases are
-//! `open`, up to the first worker's start, `insert`, up to the last worker's end, and `close`, in which
-//! the workers are joined and the yard is closed; `free` is the time to give its octree back. Each is
-//! the least of all rounds, but the `first` ones, which are those of the process's first tree, with one
-//! worker. With other words it tells nothing.
+//! (`sorted`), insertion by one thread in the order of the bodies' numbers (`plain`), and the builders
+//! ORIG and LOCAL (`orig` and `local`) with 1 to 4 workers, whose shares are those of the first frame. A
+//! builder's phases are `open`, up to the first worker's start, `insert`, up to the last worker's end,
+//! and `close`, in which the workers are joined and the yard is closed; `free` is the time to give its
+//! octree back. Each is the least of all rounds, but the `first` ones, which are those of the process's
+//! first tree, by one worker of ORIG. With other words it tells nothing.
 #![tactic(auto)]
 
 mod gate;
@@ -19,12 +19,12 @@ ghost use Rattle.bh_model.specs.Plans.{HasWorkers};
 
 use bh_outside::{Input, StdSource, read_all};
 use frame_core::first_shares;
+use free_tree::FreeYard;
 use gate::NotingGate;
 use locked_tree::LockedYard;
 use octant_code::Points;
 use octree::Octree;
 use one_thread::insert_all;
-use orig_build::build;
 use scene_file::{MOST_BYTES, read_scene};
 use std::alloc::{AllocError, Global};
 use std::env;
@@ -44,15 +44,23 @@ struct Phases {
     free: u64,
 }
 
+/// The times of a builder's phases with 1, 2, 3 and 4 workers.
+#[derive(Clone, Copy, Drop)]
+struct ByWorkers {
+    one: Phases,
+    two: Phases,
+    three: Phases,
+    four: Phases,
+}
+
 /// The times of a round, in nanoseconds: of one thread in key order, with the sort, and in number
-/// order, and of the builder's phases with 1, 2 and 4 workers.
+/// order, and of each builder's phases.
 #[derive(Clone, Copy, Drop)]
 struct Round {
     sorted: u64,
     plain: u64,
-    one: Phases,
-    two: Phases,
-    four: Phases,
+    orig: ByWorkers,
+    local: ByWorkers,
 }
 
 impl Phases {
@@ -67,15 +75,26 @@ impl Phases {
     }
 }
 
+impl ByWorkers {
+    /// The least of both, phase by phase.
+    fn least(self, other: ByWorkers) -> ByWorkers {
+        ByWorkers {
+            one: self.one.least(other.one),
+            two: self.two.least(other.two),
+            three: self.three.least(other.three),
+            four: self.four.least(other.four),
+        }
+    }
+}
+
 impl Round {
     /// The least of both, time by time.
     fn least(self, other: Round) -> Round {
         Round {
             sorted: self.sorted.min(other.sorted),
             plain: self.plain.min(other.plain),
-            one: self.one.least(other.one),
-            two: self.two.least(other.two),
-            four: self.four.least(other.four),
+            orig: self.orig.least(other.orig),
+            local: self.local.least(other.local),
         }
     }
 }
@@ -85,8 +104,19 @@ fn since<R: Clock>(rt: &R, start: Instant) -> anyhow::Result<u64> {
     Ok(u64::try_from(start.elapsed(rt)?.as_nanos())?)
 }
 
-/// The times of the phases of one build by so many workers.
-fn time_build<R: Clock + Threads + Wait + Sync>(
+/// The times of the phases of a build that passed a gate, until its octree was made and until it was
+/// given back.
+fn phases_of<R: Clock>(gate: &NotingGate<'_, R>, built: u64, freed: u64) -> Phases {
+    Phases {
+        open: gate.first(),
+        insert: gate.last().saturating_sub(gate.first()),
+        close: built.saturating_sub(gate.last()),
+        free: freed.saturating_sub(built),
+    }
+}
+
+/// The times of the phases of one build by so many workers of ORIG.
+fn time_orig<R: Clock + Threads + Wait + Sync>(
     rt: &R,
     alloc: Global,
     points: &Arc<Points>,
@@ -98,16 +128,31 @@ fn time_build<R: Clock + Threads + Wait + Sync>(
     let mut yard = LockedYard::new();
     let start = Instant::now(rt)?;
     let gate = NotingGate::new(rt, start);
-    let tree = build(rt, alloc, &mut yard, points, &shares, &gate)?;
+    let tree = orig_build::build(rt, alloc, &mut yard, points, &shares, &gate)?;
     let built = since(rt, start)?;
     drop(tree);
     let freed = since(rt, start)?;
-    Ok(Phases {
-        open: gate.first(),
-        insert: gate.last().saturating_sub(gate.first()),
-        close: built.saturating_sub(gate.last()),
-        free: freed.saturating_sub(built),
-    })
+    Ok(phases_of(&gate, built, freed))
+}
+
+/// The times of the phases of one build by so many workers of LOCAL.
+fn time_local<R: Clock + Threads + Sync>(
+    rt: &R,
+    alloc: Global,
+    points: &Arc<Points>,
+    workers: u32,
+) -> anyhow::Result<Phases>
+    requires { HasWorkers workers }
+{
+    let shares = first_shares(alloc, workers, points.len())?;
+    let mut yard = FreeYard::new();
+    let start = Instant::now(rt)?;
+    let gate = NotingGate::new(rt, start);
+    let tree = local_build::build(rt, alloc, &mut yard, points, &shares, &gate)?;
+    let built = since(rt, start)?;
+    drop(tree);
+    let freed = since(rt, start)?;
+    Ok(phases_of(&gate, built, freed))
 }
 
 /// The times of one round.
@@ -127,9 +172,18 @@ fn time_round<R: Clock + Threads + Wait + Sync>(
     Ok(Round {
         sorted,
         plain,
-        one: time_build(rt, alloc, points, 1)?,
-        two: time_build(rt, alloc, points, 2)?,
-        four: time_build(rt, alloc, points, 4)?,
+        orig: ByWorkers {
+            one: time_orig(rt, alloc, points, 1)?,
+            two: time_orig(rt, alloc, points, 2)?,
+            three: time_orig(rt, alloc, points, 3)?,
+            four: time_orig(rt, alloc, points, 4)?,
+        },
+        local: ByWorkers {
+            one: time_local(rt, alloc, points, 1)?,
+            two: time_local(rt, alloc, points, 2)?,
+            three: time_local(rt, alloc, points, 3)?,
+            four: time_local(rt, alloc, points, 4)?,
+        },
     })
 }
 
@@ -140,7 +194,7 @@ fn times_of<R: Clock + Threads + Wait + Sync>(
     points: &Arc<Points>,
     rounds: u32,
 ) -> anyhow::Result<(Phases, Round)> {
-    let first = time_build(rt, alloc, points, 1)?;
+    let first = time_orig(rt, alloc, points, 1)?;
     let mut least = time_round(rt, alloc, points)?;
     for _ in 1..rounds {
         least = least.least(time_round(rt, alloc, points)?);
@@ -169,27 +223,23 @@ fn main(rt: HostRuntime) -> anyhow::Result<()> {
     let scene = read_scene(alloc, &bytes)?;
     let points = Arc::new(alloc, scene.bodies.points(alloc)?)?;
     let (first, least) = times_of(&rt, alloc, &points, rounds)?;
-    for (name, nanos) in [
-        ("sorted", least.sorted),
-        ("plain", least.plain),
-        ("first.open", first.open),
-        ("first.insert", first.insert),
-        ("first.close", first.close),
-        ("first.free", first.free),
-        ("1.open", least.one.open),
-        ("1.insert", least.one.insert),
-        ("1.close", least.one.close),
-        ("1.free", least.one.free),
-        ("2.open", least.two.open),
-        ("2.insert", least.two.insert),
-        ("2.close", least.two.close),
-        ("2.free", least.two.free),
-        ("4.open", least.four.open),
-        ("4.insert", least.four.insert),
-        ("4.close", least.four.close),
-        ("4.free", least.four.free),
+    eprintln!(rt; "sorted {}", least.sorted)?;
+    eprintln!(rt; "plain {}", least.plain)?;
+    for (name, phases) in [
+        ("first", first),
+        ("orig.1", least.orig.one),
+        ("orig.2", least.orig.two),
+        ("orig.3", least.orig.three),
+        ("orig.4", least.orig.four),
+        ("local.1", least.local.one),
+        ("local.2", least.local.two),
+        ("local.3", least.local.three),
+        ("local.4", least.local.four),
     ] {
-        eprintln!(rt; "{name} {nanos}")?;
+        eprintln!(rt; "{name}.open {}", phases.open)?;
+        eprintln!(rt; "{name}.insert {}", phases.insert)?;
+        eprintln!(rt; "{name}.close {}", phases.close)?;
+        eprintln!(rt; "{name}.free {}", phases.free)?;
     }
     Ok(())
 }

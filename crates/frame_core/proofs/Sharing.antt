@@ -9,8 +9,8 @@ use Rattle.std.proofs.lemmas.Simd.{splat_is_map}
 use Rattle.bh_model.proofs.Standing.{length_numbers}
 use Rattle.bh_model.specs.Bodies.{numbers}
 use Rattle.bh_model.specs.Plans.{HasWorkers}
-use Rattle.orig_build.specs.Shares.{AreShares}
-use Rattle.orig_build.proofs.Laws.{owned_are_shares}
+use Rattle.build_workers.specs.Shares.{AreShares}
+use Rattle.build_workers.proofs.Laws.{owned_are_shares}
 use Rattle.frame_core.specs.Shares.{first_shares, share_below}
 use Rattle.frame_core.proofs.Rows.{length-values, numbers-none, numbers-suc, value_at_place}
 

@@ -5,7 +5,7 @@ use Rattle.bh_model.specs.Trees.{depth}
 use Rattle.bh_model.specs.Zones.{zones}
 use Rattle.force_walk.specs.Walks.{pulls}
 use Rattle.mass_moments.specs.Kept.{IsCost, cost_at, matter_of}
-use Rattle.orig_build.specs.Shares.{AreShares}
+use Rattle.build_workers.specs.Shares.{AreShares}
 use Rattle.scene_file.specs.Bodies.{sites_of}
 use Rattle.frame_core.specs.Engines.{EngineStage, EngineState, WithoutTree, WithTree, WithFrame, Spent as IsSpent, at_rest, first_exact, frame_of}
 use Rattle.frame_core.specs.Frames.{tree_of_bodies}

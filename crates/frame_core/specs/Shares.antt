@@ -1,7 +1,7 @@
 -- The shares in which the workers build a tree.
 use Rattle.std.specs.Prelude.{ℕ, ◌*◌, ◌/◌, List, map}
 use Rattle.bh_model.specs.Bodies.{numbers}
-use Rattle.orig_build.specs.Shares.{owned}
+use Rattle.build_workers.specs.Shares.{owned}
 
 -- the share of a worker before the first frame, of the first of so many bodies: body n is in share n * workers / count, rounded down
 abbrev pub share_below : (below workers count w : ℕ) → List ℕ

@@ -10,6 +10,7 @@ use bh_model::{Plan, Pull};
 use build_gate::Gate;
 use costzones::zones;
 use force_walk::pulls;
+use free_tree::FreeYard;
 use locked_tree::LockedYard;
 use mass_moments::moments;
 use octant_code::{OutOfMemory, Point};
@@ -58,11 +59,11 @@ impl Engine {
     ghost use Rattle.octant_code.specs.Points.{site_at};
     ghost use Rattle.bh_model.specs.Trees.{depth};
     ghost use Rattle.bh_model.specs.Zones.{zone};
-    ghost use Rattle.bh_model.specs.declared.plan.Builder.TheVariants.{Orig};
+    ghost use Rattle.bh_model.specs.declared.plan.Builder.TheVariants.{Local, Orig};
     ghost use Rattle.frame_core.specs.Engines.{HasTree, IsUsable, Spent, WithFrame, WithTree, WithoutTree, frame_of, opened, with_frame, with_tree};
     ghost use Rattle.frame_core.specs.Frames.{pull_on, tree_of_bodies};
     ghost use Rattle.frame_core.specs.Held.{AreParts};
-    ghost use Rattle.locked_tree.specs.Seen.{risen};
+    ghost use Rattle.shared_tree.specs.Seen.{risen};
     ghost use Rattle.mass_moments.specs.Kept.{cost_at};
     ghost use Rattle.octree.specs.Stored.{IsOctreeOf, tree_of};
     ghost use Rattle.scene_file.specs.Bodies.{sites_of};
@@ -90,8 +91,9 @@ impl Engine {
         })
     }
 
-    /// Makes the canonical octree of the bodies' points: the workers build it, each its share of the
-    /// bodies, and pass the gate. The yard counts a body and a publication for each body. It may wait.
+    /// Makes the canonical octree of the bodies' points by the builder ORIG: the workers build it, each its
+    /// share of the bodies, and pass the gate. The yard counts a body and a publication for each body. It
+    /// may wait.
     ///
     /// # Errors
     ///
@@ -110,16 +112,55 @@ impl Engine {
         ensures changes { OnOk result (locked.new.changes ≡ risen locked.old.changes (length self.old.bodies)) }
         ensures kept { OnErr result (locked.new ≡ locked.old) }
     {
-        let builder = self.plan.builder;
         let shares = self.shares.as_slice();
-        match KeptTree::make(rt, self.alloc, builder, &self.bodies, shares, locked, gate) {
+        match KeptTree::make(rt, self.alloc, &self.bodies, shares, locked, gate) {
             Ok(tree) => {
-                self.last = Some(tree);
-                self.stage = Stage::Tree;
+                self.keep(tree);
                 Ok(())
             }
             Err(_) => self.refuse(),
         }
+    }
+
+    /// Makes the canonical octree of the bodies' points by the builder LOCAL: the workers build it, each
+    /// its share of the bodies, and pass the gate. The yard counts a body and a publication for each
+    /// body. It waits for nobody.
+    ///
+    /// # Errors
+    ///
+    /// `OutOfMemory` for want of memory. The engine is spent then, and the yard as it was.
+    pub fn tree_free<R: Threads + Sync, G: Gate>(
+        &mut self,
+        rt: &R,
+        free: &mut FreeYard,
+        gate: &G,
+    ) -> Result<(), OutOfMemory>
+        requires builder { self.old.plan.builder ≡ Local }
+        requires bare { self.old.stage ≡ WithoutTree }
+        ensures made { OnOk result (self.new ≡ with_tree self.old) }
+        ensures refused { OnErr result (self.new.stage ≡ Spent) }
+        ensures published { OnOk result (free.new.published ≡ risen free.old.published (length self.old.bodies)) }
+        ensures changes { OnOk result (free.new.changes ≡ risen free.old.changes (length self.old.bodies)) }
+        ensures kept { OnErr result (free.new ≡ free.old) }
+    {
+        let builder = self.plan.builder;
+        let shares = self.shares.as_slice();
+        match KeptTree::make_free(rt, self.alloc, builder, &self.bodies, shares, free, gate) {
+            Ok(tree) => {
+                self.keep(tree);
+                Ok(())
+            }
+            Err(_) => self.refuse(),
+        }
+    }
+
+    // Keeps the tree of the bodies' points, which is the last one from then on.
+    fn keep(&mut self, tree: KeptTree)
+        requires { tree ≡ sites_of self.old.bodies }
+        ensures { self.new ≡ with_tree self.old }
+    {
+        self.last = Some(tree);
+        self.stage = Stage::Tree;
     }
 
     /// Makes the frame of the engine's number: the moments of the tree's cells, the zones of the

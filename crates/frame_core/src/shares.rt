@@ -2,6 +2,7 @@
 
 ghost use Rattle.std.specs.Prelude.{◌≡◌, [], IfOk, map, replicate};
 ghost use Rattle.bh_model.specs.Plans.{HasWorkers};
+ghost use Rattle.build_workers.specs.Shares.{AreShares};
 ghost use Rattle.frame_core.specs.Shares.{first_shares};
 
 use octant_code::OutOfMemory;
@@ -10,7 +11,8 @@ use std::alloc::Global;
 /// A share for each worker: body `n` of `count` is in share `n * workers / count`.
 pub fn first_shares(alloc: Global, workers: u32, count: u32) -> Result<Vec<Vec<u32>>, OutOfMemory>
     requires { HasWorkers workers }
-    ensures { IfOk result (λ s. map (λ z. z.items) s.items ≡ first_shares workers count) }
+    ensures lists { IfOk result (λ s. map (λ z. z.items) s.items ≡ first_shares workers count) }
+    ensures shares { IfOk result (λ s. AreShares count (map (λ z. z.items) s.items)) }
 {
     let mut shares = no_shares(alloc, workers)?;
     for n in 0..count {

@@ -3,6 +3,7 @@
 
 use bh_outside::{StdSink, StdSource};
 use build_gate::OpenGate;
+use free_tree::FreeYard;
 use locked_tree::LockedYard;
 use nbody_cli::serve;
 use std::alloc::{AllocError, Global};
@@ -42,6 +43,15 @@ fn main(rt: HostRuntime) -> ExitCode {
     let mut source = StdSource::new(rt.stdin());
     let mut sink = StdSink::new(rt.stdout());
     let mut locked = LockedYard::new();
-    let status = serve(&rt, &words, &mut source, &mut sink, &mut locked, &OpenGate);
+    let mut free = FreeYard::new();
+    let status = serve(
+        &rt,
+        &words,
+        &mut source,
+        &mut sink,
+        &mut locked,
+        &mut free,
+        &OpenGate,
+    );
     ExitCode::from(status.number())
 }

@@ -4,7 +4,8 @@ use Rattle.std.specs.Io.KnownBytes.{IsAtEnd}
 use Rattle.bh_model.specs.declared.plan.Builder.{Builder}
 use Rattle.bh_model.specs.declared.plan.Builder.TheVariants as builder
 use Rattle.bh_outside.specs.Outside.{Rose, Took, TookPrefix}
-use Rattle.locked_tree.specs.Seen.{YardCounts, risen}
+use Rattle.frame_core.specs.Engines.{EngineState, opened}
+use Rattle.shared_tree.specs.Seen.{YardCounts, risen}
 use Rattle.scene_file.specs.Scene.{scene_of}
 use Rattle.scene_file.specs.declared.bodies.Body.{Body}
 use Rattle.scene_file.specs.declared.fault.SceneFault.{SceneFault}
@@ -19,7 +20,7 @@ use Rattle.nbody_cli.specs.declared.status.Status.TheVariants as status
 -- ---- what is wanted
 
 -- what is wanted of a run that meets no failure: the status that ends it, the text, whether the source is read to its end, and how many bodies the
--- trees that are made publish in the yard
+-- trees that are made publish in the yard of their builder
 pub record Wanted : Type 0 where
   pub status : Status
   pub text : List ℕ
@@ -41,9 +42,10 @@ abbrev pub status_of_fault : SceneFault → Status
 status_of_fault fault.OutOfMemory = status.Memory
 status_of_fault _ = status.Scene
 
--- how many bodies a builder publishes in the yard for one tree of so many: ORIG each of them
+-- how many bodies a builder publishes in its yard for one tree of so many: ORIG and LOCAL each of them
 abbrev pub tree_publishes : Builder → ℕ → ℕ
 tree_publishes builder.Orig bodies = bodies
+tree_publishes builder.Local bodies = bodies
 tree_publishes _ bodies = 0
 
 -- how many the options publish over a scene's bodies: they make one tree of these
@@ -54,10 +56,14 @@ publishes o bodies = tree_publishes o.plan.builder (length bodies)
 abbrev pub wanted_of_bodies : List ℕ → ℕ → Wanted
 wanted_of_bodies text published = record { status = status.Done; text = text; reads = true; publishes = published }
 
+-- the line of the first fault of the source's scene
+abbrev pub wanted_of_fault : SceneFault → Wanted
+wanted_of_fault f = record { status = status_of_fault f; text = refused_line f; reads = true; publishes = 0 }
+
 -- what is wanted of a command that reads the source, by the source's scene: its text over the bodies, or the line of the first fault
 abbrev pub wanted_of_scene : Choices → Result (List Body) SceneFault → Wanted
 wanted_of_scene o (Ok bodies) = wanted_of_bodies (command_text o bodies) (publishes o bodies)
-wanted_of_scene o (Err f) = record { status = status_of_fault f; text = refused_line f; reads = true; publishes = 0 }
+wanted_of_scene o (Err f) = wanted_of_fault f
 
 -- what is wanted, by the options and the bytes of the source: without options it is the usage line
 abbrev pub wanted : Option Choices → List ℕ → Wanted
@@ -66,28 +72,51 @@ wanted (Some o) bytes =
     if reads_source o.command then wanted_of_scene o (scene_of bytes)
     else record { status = status.Done; text = command_text o []; reads = false; publishes = publishes o [] }
 
--- ---- what is answered
+-- ---- what is read and written
 
--- what a source, a sink and a yard tell: the bytes still to come and those that were written, where they are told, how often each of the two has
--- failed, and what the yard has counted
-pub record World : Type 0 where
+-- what a source and a sink tell: the bytes still to come and those that were written, where they are told, and how often each of the two has failed
+pub record Ports : Type 0 where
   pub left : Option (List ℕ)
   pub read_faults : ℕ
   pub written : Option (List ℕ)
   pub write_faults : ℕ
-  pub yard : YardCounts
 
-abbrev pub world : (left : Option (List ℕ)) (read_faults : ℕ) (written : Option (List ℕ)) (write_faults : ℕ) (yard : YardCounts) → World
-world left read_faults written write_faults yard =
-    record { left = left; read_faults = read_faults; written = written; write_faults = write_faults; yard = yard }
+abbrev pub ports : (left : Option (List ℕ)) (read_faults : ℕ) (written : Option (List ℕ)) (write_faults : ℕ) → Ports
+ports left read_faults written write_faults =
+    record { left = left; read_faults = read_faults; written = written; write_faults = write_faults }
 
--- what a sink and a yard tell, beside a source that tells nothing and never fails
-abbrev pub inner_world : (written : Option (List ℕ)) (faults : ℕ) (yard : YardCounts) → World
-inner_world written faults yard = world None 0 written faults yard
+-- what a sink tells, beside a source that tells nothing and never fails
+abbrev pub sink_port : (written : Option (List ℕ)) (faults : ℕ) → Ports
+sink_port written faults = ports None 0 written faults
 
--- what a sink tells, beside a yard that counts nothing
-abbrev pub sink_world : (written : Option (List ℕ)) (faults : ℕ) → World
-sink_world written faults = inner_world written faults (record { published = 0; changes = 0 })
+-- How a run ends, by what is wanted. At the status that is wanted the text was written whole, at Done from a source that was read to its end where
+-- that is wanted. Read and Write blame the source and the sink, Memory is free, and the text was not begun at Read and is a prefix at Write and at
+-- Memory.
+abbrev pub Ends : Wanted → (before after : Ports) → Status → Type 0
+Ends w before after status.Read = IsTrue w.reads × Rose before.read_faults after.read_faults × Took before.written after.written []
+Ends w before after status.Write = Rose before.write_faults after.write_faults × TookPrefix before.written after.written w.text
+Ends w before after status.Memory = TookPrefix before.written after.written w.text
+Ends w before after status.Done = (status.Done ≡ w.status) × Took before.written after.written w.text × (IsTrue w.reads → IsAtEnd after.left)
+Ends w before after whole = (whole ≡ w.status) × Took before.written after.written w.text
+
+-- where no read and no write failed, a run ends as is wanted, or memory ran out
+abbrev pub Completes : Wanted → (before after : Ports) → Status → Type 0
+Completes w before after answer =
+    (Rose before.read_faults after.read_faults → ⊥) → (Rose before.write_faults after.write_faults → ⊥) → (answer ≡ w.status) ⊎ (answer ≡ status.Memory)
+
+-- the bytes are those that the source told, where it tells any
+abbrev pub AreLeft : Option (List ℕ) → List ℕ → Type 0
+AreLeft None bytes = ⊤
+AreLeft (Some left) bytes = left ≡ bytes
+
+-- what a run read and wrote, for some list of bytes that is what the source told
+pub record Answers (options : Option Choices) (before after : Ports) (answer : Status) : Type 0 where
+  pub bytes : List ℕ
+  pub told : AreLeft before.left bytes
+  pub ends : Ends (wanted options bytes) before after answer
+  pub complete : Completes (wanted options bytes) before after answer
+
+-- ---- what the yards count
 
 -- both counts rose by so many, up to the greatest number of 64 bits
 abbrev pub RoseBy : ℕ → (before after : YardCounts) → Type 0
@@ -98,31 +127,64 @@ abbrev pub RoseAtMost : ℕ → (before after : YardCounts) → Type 0
 RoseAtMost n before after =
     (before.published ≤ after.published) × (after.published ≤ before.published + n) × (before.changes ≤ after.changes) × (after.changes ≤ before.changes + n)
 
--- How a run ends, by what is wanted. At the status that is wanted the text was written whole. Read and Write blame the source and the
--- sink, Memory is free, and the text was not begun at Read and is a prefix at Write and at Memory. At Done the yard's counts rose by just
--- what the trees publish, at Write and at Memory by no more, and else the yard is as it was.
-abbrev pub Ends : Wanted → (before after : World) → Status → Type 0
-Ends w before after status.Read = IsTrue w.reads × Rose before.read_faults after.read_faults × Took before.written after.written [] × (after.yard ≡ before.yard)
-Ends w before after status.Write =
-    Rose before.write_faults after.write_faults × TookPrefix before.written after.written w.text × RoseAtMost w.publishes before.yard after.yard
-Ends w before after status.Memory = TookPrefix before.written after.written w.text × RoseAtMost w.publishes before.yard after.yard
-Ends w before after status.Done =
-    (status.Done ≡ w.status) × Took before.written after.written w.text × (IsTrue w.reads → IsAtEnd after.left) × RoseBy w.publishes before.yard after.yard
-Ends w before after whole = (whole ≡ w.status) × Took before.written after.written w.text × (after.yard ≡ before.yard)
+-- How the counts of a yard stand at the end of a run whose trees publish so many bodies in it: at Done they rose by just so many, at Write and at Memory
+-- by no more, and else they are as they were.
+abbrev pub Counts : ℕ → (before after : YardCounts) → Status → Type 0
+Counts n before after status.Done = RoseBy n before after
+Counts n before after status.Write = RoseAtMost n before after
+Counts n before after status.Memory = RoseAtMost n before after
+Counts n before after _ = after ≡ before
 
--- where no read and no write failed, a run ends as is wanted, or memory ran out
-abbrev pub Completes : Wanted → (before after : World) → Status → Type 0
-Completes w before after answer =
-    (Rose before.read_faults after.read_faults → ⊥) → (Rose before.write_faults after.write_faults → ⊥) → (answer ≡ w.status) ⊎ (answer ≡ status.Memory)
+-- the builder of the options, and the default one where there are none: nothing is built then
+abbrev pub chosen_builder : Option Choices → Builder
+chosen_builder None = builder.Orig
+chosen_builder (Some o) = o.plan.builder
 
--- the bytes are those that the source told, where it tells any
-abbrev pub AreLeft : Option (List ℕ) → List ℕ → Type 0
-AreLeft None bytes = ⊤
-AreLeft (Some left) bytes = left ≡ bytes
+-- what a source, a sink, the yard whose trees have locks, and the one whose words are exchanged tell
+pub record World : Type 0 where
+  pub ports : Ports
+  pub locked : YardCounts
+  pub free : YardCounts
 
--- a run, for some list of bytes that is what the source told
+abbrev pub world : (ports : Ports) (locked free : YardCounts) → World
+world ports locked free = record { ports = ports; locked = locked; free = free }
+
+-- the yard that a builder uses: ORIG the one with locks, and each other one the one without
+abbrev pub yard_of : Builder → World → YardCounts
+yard_of builder.Orig w = w.locked
+yard_of _ w = w.free
+
+-- the yard that it doesn't use
+abbrev pub other_yard_of : Builder → World → YardCounts
+other_yard_of builder.Orig w = w.free
+other_yard_of _ w = w.locked
+
+-- ---- the top calls
+
+-- A run of words: what it read and wrote, what the yard of its builder counted, and the other yard is as it was, whatever the status.
 pub record Serves (options : Option Choices) (before after : World) (answer : Status) : Type 0 where
+  pub answers : Answers options before.ports after.ports answer
+  pub counts : Counts (wanted options answers.bytes).publishes (yard_of (chosen_builder options) before) (yard_of (chosen_builder options) after) answer
+  pub other_yard : other_yard_of (chosen_builder options) after ≡ other_yard_of (chosen_builder options) before
+
+-- A run of options: what it read and wrote, what the yard counted that it was given, and it never ends with Usage.
+pub record ServesOptions (o : Choices) (before after : Ports) (yard_before yard_after : YardCounts) (answer : Status) : Type 0 where
+  pub answers : Answers (Some o) before after answer
+  pub counts : Counts (wanted (Some o) answers.bytes).publishes yard_before yard_after answer
+  pub no_usage : answer ≡ status.Usage → ⊥
+
+-- ---- inside a run of options
+
+-- the engine of the scene that the source told, which was read to its end
+pub record IsOpened (o : Choices) (left_before left_after : Option (List ℕ)) (e : EngineState) : Type 0 where
   pub bytes : List ℕ
-  pub told : AreLeft before.left bytes
-  pub ends : Ends (wanted options bytes) before after answer
-  pub complete : Completes (wanted options bytes) before after answer
+  pub told : AreLeft left_before bytes
+  pub end : IsAtEnd left_after
+  pub scene : scene_of bytes ≡ Ok e.bodies
+  pub engine : e ≡ opened o.plan e.bodies
+
+-- a status that ends a run before it makes a tree
+abbrev pub IsEarly : Status → Type 0
+IsEarly status.Done = ⊥
+IsEarly status.Usage = ⊥
+IsEarly _ = ⊤

@@ -1,6 +1,6 @@
 -- What the program writes.
 use Rattle.std.specs.Prelude.{ℕ, List, [], ◌∷◌, codes}
-use Rattle.frame_core.specs.Engines.{opened}
+use Rattle.frame_core.specs.Engines.{EngineState, opened}
 use Rattle.frame_core.specs.Frames.{tree_of_bodies}
 use Rattle.nbody_cli.specs.Frames.{frame_lines}
 use Rattle.nbody_cli.specs.Lines.{TextLine, TreeLine, Words, LineItem, Word, Number, lines_text}
@@ -30,12 +30,16 @@ refused_line fault.OutOfMemory = []
 abbrev pub usage_line : List ℕ
 usage_line = codes "usage: nbody tree|passes|run|trial [--builder orig|local|update|partree|space] [--workers N] [--steps N] [--theta T/Q] [--eps2 N] [--g N] [--probe NAME] [--count N] [--seed N] [--shape uniform|corner]\n"
 
--- the lines of a command over a scene's bodies; the commands that are not served have none
+-- the lines of a command by the engine that has its tree; the commands that are not served have none
+abbrev pub engine_lines : Command → EngineState → List TextLine
+engine_lines command.Tree e = TreeLine (tree_of_bodies e.bodies) ∷ []
+engine_lines command.Run e = frame_lines e
+engine_lines command.Passes e = []
+engine_lines command.Trial e = []
+
+-- the lines of a command over a scene's bodies
 abbrev pub command_lines : Command → Choices → List Body → List TextLine
-command_lines command.Tree o bodies = TreeLine (tree_of_bodies bodies) ∷ []
-command_lines command.Run o bodies = frame_lines (opened o.plan bodies)
-command_lines command.Passes o bodies = []
-command_lines command.Trial o bodies = []
+command_lines command o bodies = engine_lines command (opened o.plan bodies)
 
 -- the text of the options over a scene's bodies
 abbrev pub command_text : Choices → List Body → List ℕ

@@ -1,4 +1,4 @@
-//! The texts and the top call of the program `nbody`.
+//! The texts and the top calls of the program `nbody`.
 #![tactic(auto)]
 
 mod frame_text;
@@ -10,5 +10,5 @@ mod text;
 pub use nbody_options::{
     Command, Kind, Made, Options, OptionsFault, ProbeChoice, Shape, read_options,
 };
-pub use service::serve;
+pub use service::{serve, serve_free};
 pub use status::Status;

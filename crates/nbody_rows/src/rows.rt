@@ -3,6 +3,7 @@
 use crate::serving::{gives, run_with, sure_ends, words_of};
 use bh_outside::{MemorySource, SureSink};
 use build_gate::OpenGate;
+use free_tree::FreeYard;
 use locked_tree::LockedYard;
 use nbody_cli::{Status, serve};
 use std::process::Abort;
@@ -159,8 +160,17 @@ fn is_done<R: Abort + AllocGlobal + Threads + Wait + Sync>(
     let alloc = rt.alloc();
     let words = words_of(alloc, "tree")?;
     let mut source = MemorySource::new(scene.to_vec(alloc)?, 1, Vec::new(alloc));
-    let mut yard = LockedYard::new();
-    let status = serve(rt, &words, &mut source, sink, &mut yard, &OpenGate);
+    let mut locked = LockedYard::new();
+    let mut free = FreeYard::new();
+    let status = serve(
+        rt,
+        &words,
+        &mut source,
+        sink,
+        &mut locked,
+        &mut free,
+        &OpenGate,
+    );
     assert_eq!(rt; status, Status::Done);
     Ok(())
 }

@@ -2,6 +2,7 @@
 
 use bh_outside::{MemorySink, MemorySource};
 use build_gate::{Gate, OpenGate};
+use free_tree::FreeYard;
 use locked_tree::LockedYard;
 use nbody_cli::{Status, serve};
 use std::alloc::Global;
@@ -43,14 +44,21 @@ pub fn words_of(alloc: Global, line: &str) -> Result<Vec<String>, Fail> {
     Ok(words)
 }
 
-/// What is seen of a run: how it ended, what it wrote, and how many bodies and how many publications
-/// its yard counts, which counted none before.
+/// How many bodies and how many publications a yard counts.
+#[derive(Clone, Copy, Drop)]
+pub struct Counts {
+    pub published: u64,
+    pub changes: u64,
+}
+
+/// What is seen of a run: how it ended, what it wrote, and what the yard whose trees have locks and the
+/// one whose trees have none count, which counted nothing before.
 #[derive(Drop)]
 pub struct Ran {
     pub status: Status,
     pub text: Vec<u8>,
-    pub published: u64,
-    pub changes: u64,
+    pub locked: Counts,
+    pub free: Counts,
 }
 
 /// The run of these words over a scene, whose workers pass a gate.
@@ -67,13 +75,28 @@ pub fn run_at<R: Abort + AllocGlobal + Threads + Wait + Sync, G: Gate>(
     let writes = ends.failing_writes.to_vec(alloc)?;
     let mut source = MemorySource::new(scene.to_vec(alloc)?, ends.give.max(1), reads);
     let mut sink = MemorySink::new(alloc, ends.room, ends.take.max(1), writes)?;
-    let mut yard = LockedYard::new();
-    let status = serve(rt, &words, &mut source, &mut sink, &mut yard, gate);
+    let mut locked = LockedYard::new();
+    let mut free = FreeYard::new();
+    let status = serve(
+        rt,
+        &words,
+        &mut source,
+        &mut sink,
+        &mut locked,
+        &mut free,
+        gate,
+    );
     Ok(Ran {
         status,
         text: sink.bytes().to_vec(alloc)?,
-        published: yard.published(),
-        changes: yard.changes(),
+        locked: Counts {
+            published: locked.published(),
+            changes: locked.changes(),
+        },
+        free: Counts {
+            published: free.published(),
+            changes: free.changes(),
+        },
     })
 }
 

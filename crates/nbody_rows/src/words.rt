@@ -81,7 +81,7 @@ fn what_is_not_served_is_refused(rt: HostRuntime) -> Result<(), Fail> {
     let rows: [&[&str]; 5] = [
         &["trial"],
         &["run", "--steps", "2"],
-        &["tree", "--builder", "local"],
+        &["tree", "--builder", "partree"],
         &["tree", "--steps", "2"],
         &["tree", "--probe", "all"],
     ];
@@ -93,8 +93,9 @@ fn what_is_not_served_is_refused(rt: HostRuntime) -> Result<(), Fail> {
 
 #[test]
 fn options_that_a_command_does_not_use_are_served(rt: HostRuntime) -> Result<(), Fail> {
-    let rows: [&[&str]; 2] = [
+    let rows: [&[&str]; 3] = [
         &["run", "--workers", "3"],
+        &["tree", "--builder", "local"],
         &[
             "tree",
             "--builder=orig",

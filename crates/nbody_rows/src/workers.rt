@@ -1,7 +1,7 @@
-//! Runs with several workers: what is the same with any number of them, and that they are at work at
-//! the same time.
+//! Runs with several workers: what is the same with each builder and any number of them, and that they
+//! are at work at the same time.
 
-use crate::serving::{run_at, run_with, sure_ends};
+use crate::serving::{Ran, run_at, run_with, sure_ends};
 use build_gate::{MeetGate, OpenGate};
 use nbody_cli::Status;
 use scene_file::{Shape, made_scene, scene_text};
@@ -11,7 +11,7 @@ use std::sync::Wait;
 use std::test::Fail;
 use std::thread::Threads;
 
-/// The lines of a frame that are the same with any number of workers: those of its tree, of how large
+/// The lines of a frame that are the same with each builder and any number of workers: those of its tree, of how large
 /// that is, and of its bodies.
 fn common_lines(alloc: Global, text: &[u8]) -> Result<Vec<u8>, Fail> {
     let mut lines: Vec<u8> = Vec::new(alloc);
@@ -24,34 +24,37 @@ fn common_lines(alloc: Global, text: &[u8]) -> Result<Vec<u8>, Fail> {
     Ok(lines)
 }
 
-/// Those lines of the run of these words over a scene, with so many workers.
+/// Those lines of the run of these words over a scene, with so many workers of a builder.
 fn lines_with<R: Abort + AllocGlobal + Threads + Wait + Sync>(
     rt: &R,
     line: &str,
     scene: &[u8],
+    builder: &str,
     workers: u32,
 ) -> Result<Vec<u8>, Fail> {
-    let words = format!(in rt.alloc(); "{line} --workers {workers}")?;
+    let words = format!(in rt.alloc(); "{line} --builder {builder} --workers {workers}")?;
     let (status, text) = run_with(rt, &words, scene, &sure_ends(1 << 16))?;
     assert_eq!(rt; status, Status::Done, "{words}");
     common_lines(rt.alloc(), &text)
 }
 
-/// The run of these words over a scene tells the same of its tree and of its bodies with one, three and
-/// eight workers.
+/// The run of these words over a scene tells the same of its tree and of its bodies with each builder,
+/// by one worker, three, eight and sixty-four.
 fn is_common<R: Abort + AllocGlobal + Threads + Wait + Sync>(
     rt: &R,
     line: &str,
     scene: &[u8],
 ) -> Result<(), Fail> {
-    let alone = lines_with(rt, line, scene, 1)?;
+    let alone = lines_with(rt, line, scene, "orig", 1)?;
     assert!(rt; alone.starts_with(b"tree "));
-    for workers in [3, 8] {
-        let together = lines_with(rt, line, scene, workers)?;
-        assert!(rt;
-            together.as_slice() == alone.as_slice(),
-            "{line}, {workers} workers"
-        );
+    for builder in ["orig", "local"] {
+        for workers in [1, 3, 8, 64] {
+            let together = lines_with(rt, line, scene, builder, workers)?;
+            assert!(rt;
+                together.as_slice() == alone.as_slice(),
+                "{line}, {builder}, {workers} workers"
+            );
+        }
     }
     Ok(())
 }
@@ -63,7 +66,9 @@ fn made_bodies(alloc: Global) -> Result<Vec<u8>, Fail> {
 }
 
 #[test]
-fn trees_and_pulls_are_the_same_with_any_workers(rt: HostRuntime) -> Result<(), Fail> {
+fn trees_and_pulls_are_the_same_with_each_builder_and_any_workers(
+    rt: HostRuntime,
+) -> Result<(), Fail> {
     let three = b"body,1,1,0,0\nbody,1,4,0,0\nbody,1,6,0,0\n";
     let rows: [(&str, &[u8]); 7] = [
         ("run", b""),
@@ -83,30 +88,43 @@ fn trees_and_pulls_are_the_same_with_any_workers(rt: HostRuntime) -> Result<(), 
     is_common(&rt, "run", &made_bodies(rt.alloc())?)
 }
 
-#[test]
-fn two_workers_meet(rt: HostRuntime) -> Result<(), Fail> {
+/// Two workers of a builder meet over 64 bodies.
+fn meet<R: Abort + AllocGlobal + Threads + Wait + Sync>(rt: &R, line: &str) -> Result<Ran, Fail> {
     let gate = MeetGate::new(0, 1);
     let scene = made_bodies(rt.alloc())?;
-    let line = "tree --builder orig --workers 2";
-    let ran = run_at(&rt, line, &scene, &sure_ends(1 << 16), &gate)?;
-    assert!(rt; !gate.missed());
-    assert_eq!(rt; ran.status, Status::Done);
-    assert_eq!(rt; ran.published, 64);
+    let ran = run_at(rt, line, &scene, &sure_ends(1 << 16), &gate)?;
+    assert!(rt; !gate.missed(), "{line}");
+    assert_eq!(rt; ran.status, Status::Done, "{line}");
+    Ok(ran)
+}
+
+#[test]
+fn two_workers_meet(rt: HostRuntime) -> Result<(), Fail> {
+    let orig = meet(&rt, "tree --builder orig --workers 2")?;
+    assert_eq!(rt; orig.locked.published, 64);
+    let local = meet(&rt, "tree --builder local --workers 2")?;
+    assert_eq!(rt; local.free.published, 64);
+    assert_eq!(rt; local.text.as_slice(), orig.text.as_slice());
     Ok(())
 }
 
-/// Sixty-four workers make the tree of a scene, whose line this is, and count its bodies.
+/// Sixty-four workers of each builder make the tree of a scene, whose line this is, and count its
+/// bodies.
 fn many_make<R: Abort + AllocGlobal + Threads + Wait + Sync>(
     rt: &R,
     scene: &[u8],
     text: &[u8],
     bodies: u64,
 ) -> Result<(), Fail> {
-    let ran = run_at(rt, "tree --workers 64", scene, &sure_ends(100), &OpenGate)?;
-    assert_eq!(rt; ran.status, Status::Done);
-    assert!(rt; ran.text.as_slice() == text);
-    assert_eq!(rt; ran.published, bodies);
-    assert_eq!(rt; ran.changes, bodies);
+    let orig = run_at(rt, "tree --workers 64", scene, &sure_ends(100), &OpenGate)?;
+    assert_eq!(rt; orig.status, Status::Done);
+    assert!(rt; orig.text.as_slice() == text);
+    assert_eq!(rt; orig.locked.changes, bodies);
+    let line = "tree --builder local --workers 64";
+    let local = run_at(rt, line, scene, &sure_ends(100), &OpenGate)?;
+    assert_eq!(rt; local.status, Status::Done);
+    assert!(rt; local.text.as_slice() == text);
+    assert_eq!(rt; local.free.changes, bodies);
     Ok(())
 }
 

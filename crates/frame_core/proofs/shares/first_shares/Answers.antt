@@ -3,7 +3,7 @@ use Rattle.std.proofs.lemmas.List.{length-map}
 use Rattle.bh_model.specs.Bodies.{numbers}
 use Rattle.frame_core.specs.Shares.{share_below}
 use Rattle.frame_core.proofs.Rows.{length-values}
-use Rattle.frame_core.proofs.Sharing.{own_less, shares-none, shares_more}
+use Rattle.frame_core.proofs.Sharing.{first_are_shares, own_less, shares-none, shares_more}
 use Rattle.frame_core.proofs.shares.first_shares.Goals as goal
 
 pub loop-n-init : goal.loop-n-init
@@ -38,4 +38,5 @@ loop-n-preserved c =
 pub returns : goal.returns
 returns c =
     let all : c.loop-n.n ≡ c.args.count = omega (arith, c.loop-n.auto.n-end) in
-    c.loop-n.invariant ∙ ap (λ n. map (share_below n c.args.workers c.args.count) (numbers c.args.workers)) all
+    let lists = c.loop-n.invariant ∙ ap (λ n. map (share_below n c.args.workers c.args.count) (numbers c.args.workers)) all in
+    record { lists = lists; shares = first_are_shares c.args.workers c.args.count _ c.requires lists }
