@@ -1,26 +1,27 @@
 //! Steps that are counted for the sake of a bound.
 
-ghost use Rattle.std.specs.Prelude.{◌≡◌, ◌+◌, ◌<◌};
+ghost use Rattle.std.specs.Prelude.{◌≡◌, ◌+◌, ◌-◌, ◌^◌, ◌<◌, min};
 
 use std::marker::Model;
 use std::sync::ledger::{Blank, Book, Ledger, Share};
 
-/// How many steps were taken. Contracts see it as their number. It takes no bytes and counting costs
-/// no time; what a step is says the call that counts.
+/// How many steps were taken. Contracts see it as their number; what a step is says the call that
+/// counts. The code keeps the number up to 2^64 - 1.
 #[derive(Drop)]
 pub struct Steps<L: Ledger> {
     book: Book<L>,
     share: Share<L>,
+    taken: u64,
 }
 
 impl<L: Ledger> Model for Steps<L> {
-    ghost use Rattle.std.specs.Prelude.{ℕ, ◌<◌};
+    ghost use Rattle.std.specs.Prelude.{ℕ, ◌≡◌, ◌-◌, ◌^◌, ◌<◌, min};
 
     ghost Value = { ℕ };
 
     ghost view = { λ s. s.book.total };
 
-    ghost invariant = { λ s. 0 < s.share.parts };
+    ghost invariant = { λ s. (0 < s.share.parts) × (s.taken ≡ min s.book.total (2 ^ 64 - 1)) };
 }
 
 impl<L: Ledger> Steps<L> {
@@ -31,7 +32,11 @@ impl<L: Ledger> Steps<L> {
         ensures { result ≡ 0 }
     {
         let (book, share) = blank.open();
-        Steps { book, share }
+        Steps {
+            book,
+            share,
+            taken: 0,
+        }
     }
 
     /// Counts one step.
@@ -39,5 +44,13 @@ impl<L: Ledger> Steps<L> {
         ensures { self.new ≡ self.old + 1 }
     {
         self.book.add(&mut self.share, 1);
+        self.taken = self.taken.saturating_add(1);
+    }
+
+    /// How many steps were taken, up to 2^64 - 1.
+    pub fn taken(&self) -> u64
+        ensures { result ≡ min self.now (2 ^ 64 - 1) }
+    {
+        self.taken
     }
 }
