@@ -1,6 +1,7 @@
 -- The pull of a tree on a body (Barnes and Hut, Nature 324, 1986, in whole numbers): the law, the term of one mass, which
 -- cells are taken whole, and their sum.
 use Rattle.std.specs.Prelude.{ℕ, ◌+◌, ◌-◌, ◌*◌, ◌^◌, ◌<◌, ◌≤◌, ◌&&◌, ℤ, pos, neg_ℤ, ◌+ℤ◌, ◌-ℤ◌, ◌*ℤ◌, ◌≤ℤ◌, Bool, not, nat_eq, nat_lt, if◌then◌else◌}
+use Rattle.octant_code.specs.declared.limits.TheConstants.{LEVELS}
 use Rattle.octant_code.specs.Space.{Site, key_of, squared_distance}
 use Rattle.octant_code.specs.Numbers.{quotient, root}
 use Rattle.bh_model.specs.Trees.{Tree, Empty, Body, Cell}
@@ -63,7 +64,7 @@ is_far law down from to =
 
 -- a cell of side 2 ^ down is taken whole by a body: the body's point is outside the cube of the cell's key, and the cell's centre is far
 unfoldable pub is_whole : PullLaw → ℕ → ℕ → Site → Site → Bool
-is_whole law down key from to = not (nat_eq (key_of from (21 - down)) key) && is_far law down from to
+is_whole law down key from to = not (nat_eq (key_of from (LEVELS - down)) key) && is_far law down from to
 
 -- the pull on body `n` of a tree whose cube has side 2 ^ down and a key: nothing of no body and of the body itself, the term of another body,
 -- the term of a cell's mass at its centre where the cell is taken whole, and else the sum of the pulls of its children
@@ -79,7 +80,7 @@ pull_from law m n down key (Cell a b c d e f g h) =
 
 -- the pull on body `n` of a tree of the whole cube
 abbrev pub pull : PullLaw → Matter → ℕ → Tree → Pull
-pull law m n tree = pull_from law m n 21 1 tree
+pull law m n tree = pull_from law m n LEVELS 1 tree
 
 -- ---- how large pulls are
 

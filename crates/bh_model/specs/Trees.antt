@@ -1,5 +1,6 @@
 -- Octrees of bodies, the canonical octree of a list of bodies, and the order, the depth and the text of a tree.
 use Rattle.std.specs.Prelude.{ℕ, ◌+◌, ◌*◌, zero, suc, max, eqb, List, [], ◌∷◌, ◌++◌, filter, length, decimal}
+use Rattle.octant_code.specs.declared.limits.TheConstants.{LEVELS}
 use Rattle.octant_code.specs.Space.{Site, octant_of}
 use Rattle.bh_model.specs.Bodies.{IsIn}
 
@@ -27,7 +28,7 @@ octree_from site (suc below) level (n ∷ m ∷ rest) =
 
 -- the canonical octree of a list of bodies
 abbrev pub octree : (ℕ → Site) → List ℕ → Tree
-octree site bodies = octree_from site 21 0 bodies
+octree site bodies = octree_from site LEVELS 0 bodies
 
 -- the keys of the cells of a tree whose cube has a key: child k of the cell with key c has the key 8c + k
 unfoldable pub cell_keys_from : Tree → ℕ → List ℕ

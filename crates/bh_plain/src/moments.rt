@@ -1,6 +1,7 @@
 //! The plain slow program for moments.
 
 ghost use Rattle.std.specs.Prelude.{◌≡◌, ◌+◌, ◌-◌, ◌^◌, ◌<◌, ◌≤◌, All, IfOk, length, slice_index, sum_by};
+ghost use Rattle.octant_code.specs.declared.limits.TheConstants.{LEVELS};
 ghost use Rattle.octant_code.specs.Points.{site_at};
 ghost use Rattle.bh_model.specs.Moments.{FitsWords, matter_by, moment, moment_of_body};
 ghost use Rattle.bh_model.specs.Trees.{octree, octree_from};
@@ -46,9 +47,9 @@ pub(crate) fn moment_of_part(
     requires within { All (λ n. n < length points.now) bodies.now }
     requires weighed { All (λ n. n < length masses.now) bodies.now }
     requires costed { All (λ n. n < length costs.now) bodies.now }
-    requires shallow { level ≤ 21 }
-    requires fits { FitsWords (moment (matter_by masses.now points.now) (λ n. slice_index costs.now n) (octree_from (site_at points.now) (21 - level) level bodies.now)) }
-    ensures { IfOk result (λ m. m ≡ moment (matter_by masses.now points.now) (λ n. slice_index costs.now n) (octree_from (site_at points.now) (21 - level) level bodies.now)) }
+    requires shallow { level ≤ LEVELS }
+    requires fits { FitsWords (moment (matter_by masses.now points.now) (λ n. slice_index costs.now n) (octree_from (site_at points.now) (LEVELS - level) level bodies.now)) }
+    ensures { IfOk result (λ m. m ≡ moment (matter_by masses.now points.now) (λ n. slice_index costs.now n) (octree_from (site_at points.now) (LEVELS - level) level bodies.now)) }
 {
     if bodies.len() == 1 {
         return Ok(moment_of_body(points, masses, costs, bodies[0]));

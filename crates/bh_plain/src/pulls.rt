@@ -1,6 +1,7 @@
 //! The plain slow program for pulls.
 
 ghost use Rattle.std.specs.Prelude.{◌≡◌, ◌-◌, ◌^◌, ◌<◌, ◌≤◌, All, IfOk, length, slice_index, sum_by};
+ghost use Rattle.octant_code.specs.declared.limits.TheConstants.{LEVELS};
 ghost use Rattle.octant_code.specs.Points.{site_at};
 ghost use Rattle.bh_model.specs.Bodies.{NoneTwice};
 ghost use Rattle.bh_model.specs.Moments.{matter_by};
@@ -51,10 +52,10 @@ fn pull_of_part(
     key: u64,
 ) -> Result<Pull, OutOfMemory>
     requires own { n < length points.now }
-    requires shallow { level ≤ 21 }
+    requires shallow { level ≤ LEVELS }
     requires constant { law.now.g ≤ 2 ^ 40 }
     requires part { IsPart points.now masses.now level key bodies.now }
-    ensures { IfOk result (λ p. p ≡ pull_from law.now (matter_by masses.now points.now) n (21 - level) key (octree_from (site_at points.now) (21 - level) level bodies.now)) }
+    ensures { IfOk result (λ p. p ≡ pull_from law.now (matter_by masses.now points.now) n (LEVELS - level) key (octree_from (site_at points.now) (LEVELS - level) level bodies.now)) }
 {
     if bodies.len() == 1 {
         return Ok(pull_of_body(points, masses, law, n, bodies[0]));
@@ -98,8 +99,8 @@ fn pull_of_body(points: &Points, masses: &[u32], law: &Law, n: u32, j: u32) -> P
 /// Whether the cell of a key of a level is taken whole by a body at a point: the point is outside the
 /// cell's cube, and the cell's centre is far.
 fn is_whole(law: &Law, level: u32, key: u64, from: Point, to: Point) -> bool
-    requires { level ≤ 21 }
-    ensures { result ≡ is_whole law.now (21 - level) key from to }
+    requires { level ≤ LEVELS }
+    ensures { result ≡ is_whole law.now (LEVELS - level) key from to }
 {
     if key_at(from, level) == key {
         return false;
@@ -109,7 +110,7 @@ fn is_whole(law: &Law, level: u32, key: u64, from: Point, to: Point) -> bool
 
 /// Whether a centre is far from a point for a cube of side `2^down`.
 fn is_far(law: &Law, down: u32, from: Point, to: Point) -> bool
-    requires { down ≤ 21 }
+    requires { down ≤ LEVELS }
     ensures { result ≡ is_far law.now down from to }
 {
     let side = 1u128 << down;

@@ -2,6 +2,7 @@
 //! definition does, and the tests of the other programs compare with it.
 
 ghost use Rattle.std.specs.Prelude.{◌≡◌, ◌++◌, ◌-◌, ◌<◌, ◌≤◌, All, IfOk, OnOk, length};
+ghost use Rattle.octant_code.specs.declared.limits.TheConstants.{LEVELS};
 ghost use Rattle.octant_code.specs.Points.{site_at};
 ghost use Rattle.bh_model.specs.Trees.{in_octant, octree_from, octree, order, text};
 
@@ -40,8 +41,8 @@ fn push_text(
     out: &mut Vec<u8>,
 ) -> Result<(), OutOfMemory>
     requires within { All (λ n. n < length points.now) bodies.now }
-    requires shallow { level ≤ 21 }
-    ensures { OnOk result (out.new.items ≡ out.old.items ++ text (octree_from (site_at points.now) (21 - level) level bodies.now)) }
+    requires shallow { level ≤ LEVELS }
+    ensures { OnOk result (out.new.items ≡ out.old.items ++ text (octree_from (site_at points.now) (LEVELS - level) level bodies.now)) }
 {
     if bodies.len() == 1 {
         let mut number = Buffer::new();
@@ -71,8 +72,8 @@ fn push_order(
     out: &mut Vec<u32>,
 ) -> Result<(), OutOfMemory>
     requires within { All (λ n. n < length points.now) bodies.now }
-    requires shallow { level ≤ 21 }
-    ensures { OnOk result (out.new.items ≡ out.old.items ++ order (octree_from (site_at points.now) (21 - level) level bodies.now)) }
+    requires shallow { level ≤ LEVELS }
+    ensures { OnOk result (out.new.items ≡ out.old.items ++ order (octree_from (site_at points.now) (LEVELS - level) level bodies.now)) }
 {
     if bodies.len() == 1 {
         out.push(bodies[0])?;
@@ -97,7 +98,7 @@ pub(crate) fn bodies_in_octant(
     k: u32,
 ) -> Result<Vec<u32>, OutOfMemory>
     requires within { All (λ n. n < length points.now) bodies.now }
-    requires shallow { level < 21 }
+    requires shallow { level < LEVELS }
     ensures { IfOk result (λ part. part.items ≡ in_octant (site_at points.now) level k bodies.now) }
 {
     let mut part: Vec<u32> = Vec::new(alloc);

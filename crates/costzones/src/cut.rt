@@ -1,6 +1,7 @@
 //! The zones of the workers.
 
 ghost use Rattle.std.specs.Prelude.{◌≡◌, ◌<◌, ◌≤◌, ◌+◌, ◌*◌, ℕ, All, IfOk, OnOk, length, map};
+ghost use Rattle.octant_code.specs.declared.limits.TheConstants.{LEVELS};
 ghost use Rattle.bh_model.specs.Bodies.{IsIn};
 ghost use Rattle.bh_model.specs.Plans.{HasWorkers};
 ghost use Rattle.bh_model.specs.Trees.{order};
@@ -47,7 +48,7 @@ pub fn zone<L: Ledger>(
     requires worker { w < workers }
     ensures items { IfOk result (λ z. z.items ≡ zone (cost_at costs.now) workers w (tree_of tree.now)) }
     ensures opened { OnOk result (steps.new ≡ steps.old + opened (cost_at costs.now) workers w (tree_of tree.now)) }
-    ensures steps { steps.new ≤ steps.old + 21 * (length (zone (cost_at costs.now) workers w (tree_of tree.now)) + 1) }
+    ensures steps { steps.new ≤ steps.old + LEVELS * (length (zone (cost_at costs.now) workers w (tree_of tree.now)) + 1) }
 {
     let mut bodies = Vec::new(alloc);
     let root = tree.whole();

@@ -1,5 +1,6 @@
 -- The least squared distances at which cubes are far.
 use Rattle.std.specs.Prelude.{ℕ, ◌*◌, ◌^◌, ◌<◌, ◌≤◌, ◌≡◌, not, nat_lt, List, slice_index}
+use Rattle.octant_code.specs.declared.limits.TheConstants.{LEVELS}
 use Rattle.bh_model.specs.Pulls.{PullLaw}
 
 -- the least squared distance at which a cube of side 2 ^ down is far, where squared distances are below 2 ^ 44
@@ -10,4 +11,4 @@ pub record IsLeast (law : PullLaw) (down least : ℕ) : Type 0 where
 
 -- a list has the least squared distance for each side
 abbrev pub AreLeast : PullLaw → List ℕ → Type 0
-AreLeast law list = (down : ℕ) → down ≤ 21 → IsLeast law down (slice_index list down)
+AreLeast law list = (down : ℕ) → down ≤ LEVELS → IsLeast law down (slice_index list down)

@@ -1,5 +1,6 @@
 -- What one body sees of a scene.
 use Rattle.std.specs.Prelude.{◌<◌, ◌≡◌, length}
+use Rattle.octant_code.specs.declared.limits.TheConstants.{LEVELS}
 use Rattle.octant_code.specs.Space.{key_of}
 use Rattle.bh_model.specs.Moments.{Matter}
 use Rattle.bh_model.specs.Pulls.{IsPullLaw}
@@ -19,4 +20,4 @@ pub record IsView (v : View) : Type 0 where
   pub least : AreLeast v.law.now v.least.now
   pub within : v.n < length v.bodies.now
   pub from_is : v.from ≡ (seen v).site v.n
-  pub own_is : v.own ≡ key_of v.from 21
+  pub own_is : v.own ≡ key_of v.from LEVELS

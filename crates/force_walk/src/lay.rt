@@ -1,6 +1,7 @@
 //! The flat table is laid.
 
 ghost use Rattle.std.specs.Prelude.{◌≡◌, ◌+◌, ◌<◌, ◌-◌, ◌^◌, ◌∷◌, ◌++◌, [], ℕ, IfOk, List, OnOk, length, slice_index, slice_index_or, slice_set};
+ghost use Rattle.octant_code.specs.declared.limits.TheConstants.{LEVELS};
 ghost use Rattle.force_walk.specs.Cubes.{IsTreeOfCube};
 ghost use Rattle.force_walk.specs.Flat.{AreFound, body_node, flat, kept_node, no_node, owners};
 ghost use Rattle.mass_moments.specs.Kept.{HaveMatter, matter_of, moment_at};
@@ -11,7 +12,7 @@ ghost use Rattle.scene_file.specs.Bodies.{sites_of};
 use crate::least::SIDES;
 use crate::node::{FlatTable, WalkNode};
 use mass_moments::Moments;
-use octant_code::OutOfMemory;
+use octant_code::{LEVELS, OutOfMemory};
 use octree::{CellNo, Octree, Subtree, Top};
 use scene_file::Bodies;
 use std::alloc::Global;
@@ -123,7 +124,7 @@ pub fn flat_table(
 ) -> Result<FlatTable, OutOfMemory>
     requires octree { IsOctreeOf (sites_of bodies.now) tree.now }
     requires moments { HaveMatter tree.now (matter_of bodies.now) moments.now }
-    ensures nodes { IfOk result (λ table. table.nodes.items ≡ flat (matter_of bodies.now) least.now 21 (tree_of tree.now)) }
+    ensures nodes { IfOk result (λ table. table.nodes.items ≡ flat (matter_of bodies.now) least.now LEVELS (tree_of tree.now)) }
     ensures long { IfOk result (λ table. length table.places.items ≡ length bodies.now) }
     ensures places { IfOk result (λ table. AreFound (owners (tree_of tree.now)) table.places.items) }
 {
@@ -139,7 +140,7 @@ pub fn flat_table(
         moments,
         bodies,
         least,
-        21,
+        LEVELS,
         &mut nodes,
         &mut places,
     )?;

@@ -1,6 +1,7 @@
 //! From which distance on a cell is far.
 
 ghost use Rattle.std.specs.Prelude.{◌≤◌};
+ghost use Rattle.octant_code.specs.declared.limits.TheConstants.{LEVELS};
 ghost use Rattle.bh_model.specs.Pulls.{IsPullLaw};
 ghost use Rattle.force_walk.specs.Least.{AreLeast, IsLeast};
 
@@ -28,7 +29,7 @@ pub fn least_distances(law: &Law) -> [u64; SIDES]
 /// The least squared distance at which a cube of side `2^down` is far, at most 2^44, which is more
 /// than any.
 fn least_distance(law: &Law, down: u32) -> u64
-    requires { down ≤ 21 }
+    requires { down ≤ LEVELS }
     ensures { IsLeast law.now down result }
 {
     let num = u128::from(law.theta_num);

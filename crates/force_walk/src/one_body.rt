@@ -1,6 +1,7 @@
 //! The pull on one body.
 
 ghost use Rattle.std.specs.Prelude.{◌≡◌, ◌+◌, ◌^◌, ◌<◌, ◌≤◌, length};
+ghost use Rattle.octant_code.specs.declared.limits.TheConstants.{LEVELS};
 ghost use Rattle.octant_code.specs.Space.{squared_distance};
 ghost use Rattle.bh_model.specs.Pulls.{is_whole, pull, pull_from, term};
 ghost use Rattle.force_walk.specs.Cubes.{HasRoom, IsTreeOfCube};
@@ -16,7 +17,7 @@ use crate::term::term_at;
 use crate::view::View;
 use bh_model::{Law, Pull};
 use mass_moments::Moments;
-use octant_code::{Point, key_at, squared_distance};
+use octant_code::{LEVELS, Point, key_at, squared_distance};
 use octree::{Octree, Subtree, Top};
 use scene_file::Bodies;
 
@@ -39,9 +40,9 @@ pub fn pull(tree: &Octree, moments: &Moments, bodies: &Bodies, n: u32, law: &Law
         least: &least,
         n,
         from,
-        own: key_at(from, 21),
+        own: key_at(from, LEVELS),
     };
-    pull_below(&view, &tree.whole(), 21, 1)
+    pull_below(&view, &tree.whole(), LEVELS, 1)
 }
 
 /// The pull of a subtree, whose cube has side `2^down` and a key.
@@ -82,7 +83,7 @@ fn pull_below(view: &View, at: &Subtree, down: u32, key: u64) -> Pull
 /// Whether the body takes a cell whole, whose cube has side `2^down` and a key, by its centre of mass.
 fn takes_whole(view: &View, down: u32, key: u64, centre: Point) -> bool
     requires view { IsView view.now }
-    requires shallow { down ≤ 21 }
+    requires shallow { down ≤ LEVELS }
     ensures { result ≡ is_whole view.now.law.now down key view.now.from centre }
 {
     let outside = view.own >> (3 * down) != key;
