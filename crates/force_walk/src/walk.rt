@@ -1,7 +1,7 @@
 //! The walk of one body over the flat table.
 
 ghost use Rattle.std.specs.Prelude.{◌≡◌, ◌+◌, ◌-◌, ◌*◌, ◌<◌, ◌^◌, All, length};
-ghost use Rattle.octant_code.specs.Space.{squared_distance, squared_gap};
+ghost use Rattle.octant_code.specs.Space.{squared_distance};
 ghost use Rattle.bh_model.specs.Pulls.{IsPullLaw, IsSmall, add_pull, term};
 ghost use Rattle.force_walk.specs.Flat.{IsLaid, holds, is_opened, walked};
 
@@ -9,28 +9,7 @@ use crate::node::WalkNode;
 use crate::short_pull::ShortPull;
 use crate::term::short_term;
 use bh_model::{Law, Pull, plain_term};
-use octant_code::Point;
-
-/// The squared distance of two points, by the gaps with a sign that a term is made of.
-#[inline]
-fn squared_gaps(from: Point, to: Point) -> u64
-    ensures value { result ≡ squared_distance from to }
-    ensures small { result < 2 ^ 44 }
-{
-    squared_gap(from.x, to.x) + squared_gap(from.y, to.y) + squared_gap(from.z, to.z)
-}
-
-/// The squared gap between two coordinates.
-#[inline]
-fn squared_gap(from: u32, to: u32) -> u64
-    requires from_fits { from < 2 ^ 21 }
-    requires to_fits { to < 2 ^ 21 }
-    ensures value { result ≡ squared_gap from to }
-    ensures small { result < 2 ^ 42 }
-{
-    let gap = i64::from(to) - i64::from(from);
-    (gap * gap).cast_unsigned()
-}
+use octant_code::{Point, squared_distance};
 
 /// Whether a place is one of so many from another on.
 #[inline]
@@ -79,7 +58,7 @@ pub fn walk(nodes: &[WalkNode], law: &Law, from: Point, place: usize) -> Pull
     let mut at = 0usize;
     while at < nodes.len() {
         let node = &nodes[at];
-        let d2 = squared_gaps(from, node.at);
+        let d2 = squared_distance(from, node.at);
         if is_opened(node, at, place, d2) {
             at += 1;
         } else {

@@ -13,9 +13,9 @@ use Rattle.bh_model.specs.Trees.{Tree, cell_of, height, order}
 use Rattle.tree_rule.proofs.Laws.{ACell, Deeper, IsKeyBelow, NoBody, OneBody, Same, WordIs, child_in_child, comparable, forget, tree-body, tree-cell}
 use Rattle.tree_rule.proofs.Laws.{cells-cell, cells_read, tree-empty, word_is}
 use Rattle.tree_rule.specs.Sound.{BelowAs, HereAs, IsReachedAs}
-use Rattle.tree_rule.specs.Words.{Below, HasBody, HasCell, Here, IsReached, at_of, body_word, cell_word, cells_from, child_place, tree_from}
+use Rattle.tree_rule.specs.Words.{Below, HasBody, HasCell, Here, IsReached, at_of, body_word, cell_number, cell_word, cells_from, child_place, tree_from}
 use Rattle.octree.specs.Stored.{IsStored, Stored, cells_of, root_word, tree_of, tree_of_word}
-use Rattle.octree.specs.Spot.{IsCellUnder, IsSpot, IsUnderChild, Spot, cell_at, cell_number, child_under, tree_under}
+use Rattle.octree.specs.Spot.{IsCellUnder, IsSpot, IsUnderChild, Spot, cell_at, child_under, tree_under}
 use Rattle.octree.specs.Subtree.{HasParts, IsBodyAt, IsCellAt, IsChildOf, IsNothingAt}
 use Rattle.octree.proofs.ReadWords.{word_small}
 

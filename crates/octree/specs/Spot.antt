@@ -1,8 +1,8 @@
 -- A word that is read on the way down from the root of an octree, and the tree below it.
-use Rattle.std.specs.Prelude.{ℕ, ◌-◌, ◌/◌, ◌^◌, ◌≤◌}
+use Rattle.std.specs.Prelude.{ℕ, ◌^◌, ◌≤◌}
 use Rattle.octant_code.specs.declared.limits.TheConstants.{LEVELS}
 use Rattle.bh_model.specs.Trees.{Tree}
-use Rattle.tree_rule.specs.Words.{HasCell, IsReached, at_of, cell_word, child_place}
+use Rattle.tree_rule.specs.Words.{HasCell, IsReached, at_of, cell_number, cell_word, child_place}
 use Rattle.tree_rule.specs.Sound.{IsReachedAs}
 use Rattle.octree.specs.Stored.{IsStored, Stored, root_word, tree_of_word}
 
@@ -23,10 +23,6 @@ pub record IsSpot (s : Spot) : Type 0 where
 -- the tree of a cell that can be reached
 abbrev pub tree_below : Stored → ℕ → Tree
 tree_below o c = tree_of_word o (cell_word c)
-
--- the number of the cell that a word names
-abbrev pub cell_number : ℕ → ℕ
-cell_number w = w / 2 - 1
 
 -- the tree of a spot
 unfoldable pub tree_under : Spot → Tree

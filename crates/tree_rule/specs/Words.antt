@@ -34,9 +34,13 @@ pub data Named : Type 0 where
   BodyName : ℕ → Named
   CellName : ℕ → Named
 
+-- the number of the cell that a word names
+abbrev pub cell_number : ℕ → ℕ
+cell_number w = w / 2 - 1
+
 -- what a word names: 0 nothing, an odd word a body, and an even one a cell
 unfoldable pub named_by : ℕ → Named
-named_by w = cond (eqb w 0) NoName (cond (eqb (w % 2) 1) (BodyName (w / 2)) (CellName (w / 2 - 1)))
+named_by w = cond (eqb w 0) NoName (cond (eqb (w % 2) 1) (BodyName (w / 2)) (CellName (cell_number w)))
 
 -- the word of what is named
 unfoldable pub word_of : Named → ℕ

@@ -20,7 +20,7 @@ laid c = subst IsLaid (sym c.index-nodes-at.is) (c.requires.laid c.loop-at.at c.
 -- the test is that of the definition
 test : (c : After-is_opened)
     → is_opened (squared_distance c.args.from c.index-nodes-at.result.at) c.args.place c.loop-at.at c.index-nodes-at.result ≡ c.is_opened.result
-test c = ap (λ d. is_opened d c.args.place c.loop-at.at c.index-nodes-at.result) (sym c.squared_gaps-d2.ensures.value) ∙ sym c.is_opened.ensures
+test c = ap (λ d. is_opened d c.args.place c.loop-at.at c.index-nodes-at.result) (sym c.squared_distance-d2.ensures.value) ∙ sym c.is_opened.ensures
 
 -- a node that is taken is apart
 apart : (c : After-is_opened) → c.is_opened.result ≡ false → 0 < squared_distance c.args.from c.index-nodes-at.result.at
