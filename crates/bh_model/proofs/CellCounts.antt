@@ -24,7 +24,7 @@ sum_grows f g o (suc n) others one =
     ]
 
 -- how many bodies of a list an octant has
-abbrev octant_length : (ℕ → Site) → ℕ → List ℕ → ℕ → ℕ
+abbrev pub octant_length : (ℕ → Site) → ℕ → List ℕ → ℕ → ℕ
 octant_length site level bodies k = length (in_octant site level k bodies)
 
 -- one body more is in no other octant than its own, and there it is one more
@@ -41,7 +41,7 @@ own_octant site level n bodies k =
     elim (cases_Bool (eqb (octant_of (site n) level) k)) [ inl e ↦ rw e (omega arith) | inr e ↦ rw e (omega arith) ]
 
 -- the octants have no more bodies than the list
-octants_few : (site : ℕ → Site) (level n : ℕ) (bodies : List ℕ) → sum_upto (octant_length site level bodies) n ≤ length bodies
+pub octants_few : (site : ℕ → Site) (level n : ℕ) (bodies : List ℕ) → sum_upto (octant_length site level bodies) n ≤ length bodies
 unfolding sum_upto
 octants_few site level zero [] = omega arith
 octants_few site level (suc n) [] = omega (arith, octants_few site level n [])
@@ -54,7 +54,7 @@ octants_few site level n (x ∷ bodies) =
     )
 
 -- a sum of values that are at most so many times others
-sum_times : (f g : ℕ → ℕ) (times n : ℕ) → ((k : ℕ) → f k ≤ times * g k) → sum_upto f n ≤ times * sum_upto g n
+pub sum_times : (f g : ℕ → ℕ) (times n : ℕ) → ((k : ℕ) → f k ≤ times * g k) → sum_upto f n ≤ times * sum_upto g n
 unfolding sum_upto
 sum_times f g times zero each = omega arith
 sum_times f g times (suc n) each = omega (arith, sum_times f g times n each, each n)

@@ -16,3 +16,4 @@ pub mod Terms
 pub mod PullBounds
 pub mod PullSums
 pub mod ZoneCuts
+pub mod Blocks

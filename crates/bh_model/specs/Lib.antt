@@ -6,3 +6,4 @@ pub mod Zones
 pub mod Plans
 pub mod Standing
 pub mod Motions
+pub mod Blocks

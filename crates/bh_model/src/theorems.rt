@@ -1,10 +1,12 @@
 //! Theorems about the definitions. The contract of each function is a theorem, and its body only looks
 //! at its arguments.
 
+mod blocks;
 mod pulls;
 mod trees;
 mod zones;
 
+pub use blocks::{a_body_has_a_block, blocks_are_at_most_the_bodies};
 pub use pulls::{a_pull_is_below_the_bound, a_term_is_at_most_the_constant_times_the_mass};
 pub use trees::{
     an_octree_has_at_most_21_cells_a_body, cells_are_where_two_bodies_lie,
