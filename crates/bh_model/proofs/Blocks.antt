@@ -31,7 +31,7 @@ pub blocks-alone : (site : ℕ → Site) (below level n : ℕ) (rest : List ℕ)
 unfolding blocks_from
 blocks-alone site below level n rest = refl
 
-blocks-deep : (site : ℕ → Site) (level n m : ℕ) (rest more : List ℕ) → blocks_from site zero level (n ∷ rest) (m ∷ more) ≡ 0
+pub blocks-deep : (site : ℕ → Site) (level n m : ℕ) (rest more : List ℕ) → blocks_from site zero level (n ∷ rest) (m ∷ more) ≡ 0
 unfolding blocks_from
 blocks-deep site level n m rest more = refl
 

@@ -1,5 +1,6 @@
 -- Blocks: the greatest cubes that hold a body and whose bodies are all of one list.
-use Rattle.std.specs.Prelude.{ℕ, Bool, ◌+◌, zero, suc, true, false, cond, eqb, not, List, [], ◌∷◌, filter}
+use Rattle.std.specs.Prelude.{ℕ, ◌+◌, zero, suc, nat_eq, not, List, [], ◌∷◌, filter, sum_by}
+use Rattle.std.specs.List.{list_any}
 use Rattle.octant_code.specs.declared.limits.TheConstants.{LEVELS}
 use Rattle.octant_code.specs.Space.{Site}
 use Rattle.bh_model.specs.Bodies.{numbers}
@@ -21,16 +22,10 @@ blocks_from site (suc below) level (n ∷ rest) (m ∷ more) =
 abbrev pub blocks : (ℕ → Site) → List ℕ → List ℕ → ℕ
 blocks site bodies others = blocks_from site LEVELS 0 bodies others
 
--- whether a list has a number
-abbrev pub has_number : List ℕ → ℕ → Bool
-has_number [] n = false
-has_number (x ∷ xs) n = cond (eqb x n) true (has_number xs n)
-
 -- the numbers below a count that a list doesn't have
 abbrev pub others_than : ℕ → List ℕ → List ℕ
-others_than count list = filter (λ n. not (has_number list n)) (numbers count)
+others_than count list = filter (λ n. not (list_any (λ x. nat_eq x n) list)) (numbers count)
 
 -- the blocks of shares of the bodies below a count: those of each share against all other bodies
 abbrev pub blocks_of_shares : (ℕ → Site) → ℕ → List (List ℕ) → ℕ
-blocks_of_shares site count [] = 0
-blocks_of_shares site count (share ∷ rest) = blocks site share (others_than count share) + blocks_of_shares site count rest
+blocks_of_shares site count shares = sum_by (λ share. blocks site share (others_than count share)) shares

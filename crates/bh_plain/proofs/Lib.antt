@@ -1,3 +1,4 @@
 mod ListZones
 mod ListMoments
 mod ListPulls
+pub mod ListBlocks

@@ -3,6 +3,7 @@
 //! tests of the other programs compare with it.
 #![tactic(auto)]
 
+mod blocks;
 mod moments;
 mod pulls;
 #[cfg(test)]
@@ -10,6 +11,7 @@ mod tests;
 mod trees;
 mod zones;
 
+pub use blocks::plain_blocks;
 pub use moments::plain_moment;
 pub use pulls::plain_pull;
 pub use trees::{plain_order, plain_text};

@@ -2,7 +2,7 @@
 
 ghost use Rattle.std.specs.Prelude.{◌<◌, All, IfOk, length};
 
-use crate::{plain_order, plain_text};
+use crate::{plain_blocks, plain_order, plain_text};
 use octant_code::{Distinct, Point, Points};
 use std::alloc::Global;
 use std::test::Fail;
@@ -70,5 +70,21 @@ fn some_of_the_bodies_and_none(rt: HostRuntime) -> Result<(), Fail> {
     assert_eq!(rt; nothing.as_slice(), b".".as_slice());
     let order = plain_order(rt.alloc(), &points, &[])?;
     assert_eq!(rt; order.len(), 0);
+    Ok(())
+}
+
+/// Two pairs of bodies, far apart from one another.
+#[test]
+fn blocks_of_two_pairs(rt: HostRuntime) -> Result<(), Fail> {
+    let far = 1 << 20;
+    let points = points_of(
+        rt.alloc(),
+        &[(0, 0, 0), (1, 0, 0), (far, 0, 0), (far + 1, 0, 0)],
+    )?;
+    assert_eq!(rt; points.len(), 4);
+    assert_eq!(rt; plain_blocks(rt.alloc(), &points, &[0, 1], &[2, 3])?, 1);
+    assert_eq!(rt; plain_blocks(rt.alloc(), &points, &[0, 2], &[1, 3])?, 2);
+    assert_eq!(rt; plain_blocks(rt.alloc(), &points, &[0, 1, 2, 3], &[])?, 1);
+    assert_eq!(rt; plain_blocks(rt.alloc(), &points, &[], &[0])?, 0);
     Ok(())
 }
