@@ -17,3 +17,4 @@ pub mod PullBounds
 pub mod PullSums
 pub mod ZoneCuts
 pub mod Blocks
+pub mod Pieces

@@ -7,3 +7,4 @@ pub mod Plans
 pub mod Standing
 pub mod Motions
 pub mod Blocks
+pub mod Pieces

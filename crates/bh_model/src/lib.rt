@@ -3,12 +3,14 @@
 #![tactic(auto)]
 
 mod moment;
+mod piece;
 mod plan;
 mod pull;
 mod term;
 mod theorems;
 
 pub use moment::Moment;
+pub use piece::Piece;
 pub use plan::{Builder, Plan};
 pub use pull::{Law, Pull};
 pub use term::{plain_component, plain_term};

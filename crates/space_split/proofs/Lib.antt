@@ -1,0 +1,5 @@
+pub mod Coded
+pub mod Slices
+pub mod Divisions
+pub mod Counts
+pub mod Pushes
