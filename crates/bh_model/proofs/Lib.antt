@@ -18,3 +18,4 @@ pub mod PullSums
 pub mod ZoneCuts
 pub mod Blocks
 pub mod Pieces
+pub mod PieceKeys

@@ -1,6 +1,6 @@
 -- The cubes that aren't divided, case by case, and that they depend on the octants of the bodies alone.
-use Rattle.std.proofs.Common.{ℕ, ◌+◌, ◌*◌, ◌<◌, ◌≤◌, ◌≡◌, ◌≢◌, ◌⊎◌, ◌&&◌, zero, suc, refl, sym, ◌∙◌, ap, inl, inr, arith, eqb}
-use Rattle.std.proofs.Common.{List, [], ◌∷◌, ◌++◌, Bool, true, false, cond, length, map, sum_by, flat_map, All, add-one}
+use Rattle.std.proofs.Common.{ℕ, ◌+◌, ◌*◌, ◌<◌, ◌≤◌, ◌≡◌, ◌≢◌, ◌&&◌, zero, suc, refl, sym, ◌∙◌, ap, inl, inr, arith, eqb}
+use Rattle.std.proofs.Common.{List, [], ◌∷◌, ◌++◌, Bool, true, cond, length, map, sum_by, flat_map, All, add-one}
 use Rattle.std.specs.Prelude.{nat_lt}
 use Rattle.std.specs.List.{filter}
 use Rattle.std.specs.List.Sorted.{IsPermutation}

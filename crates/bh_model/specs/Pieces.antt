@@ -1,6 +1,7 @@
 -- The pieces into which space is divided by counts of bodies (SPACE of Shan and Singh, IPPS 1998, in outline; the numbers are this project's own).
-use Rattle.std.specs.Prelude.{ℕ, ◌+◌, ◌*◌, ◌/◌, zero, suc, max, eqb, nat_le, if◌then◌else◌, List, [], ◌∷◌, ◌++◌, filter, length}
-use Rattle.octant_code.specs.Space.{Site, octant_of}
+use Rattle.std.specs.Prelude.{ℕ, ◌+◌, ◌*◌, ◌/◌, ◌≡◌, zero, suc, max, eqb, nat_le, if◌then◌else◌, List, [], ◌∷◌, ◌++◌, filter, length}
+use Rattle.octant_code.specs.Space.{IsUnder, Site, octant_of}
+use Rattle.bh_model.specs.Bodies.{IsIn}
 use Rattle.bh_model.specs.declared.piece.Piece.{Piece}
 
 -- the greatest number of bodies of a cube that isn't divided, for so many bodies and workers
@@ -38,3 +39,10 @@ octants_of site n level = octant_of (site n) level
 abbrev pub pieces : (ℕ → Site) → ℕ → List ℕ → List Piece
 pieces site workers bodies =
     dealt (length bodies) workers 0 (cubes_from (octants_of site) (piece_limit (length bodies) workers) 21 0 1 bodies)
+
+-- a point lies under exactly one key of a list
+pub record IsUnderOne (keys : List ℕ) (s : Site) : Type 0 where
+  pub own : ℕ
+  pub inside : IsIn keys own
+  pub under : IsUnder own s
+  pub only : (key : ℕ) → IsIn keys key → IsUnder key s → key ≡ own

@@ -2,11 +2,13 @@
 //! at its arguments.
 
 mod blocks;
+mod pieces;
 mod pulls;
 mod trees;
 mod zones;
 
 pub use blocks::{a_body_has_a_block, blocks_are_at_most_the_bodies};
+pub use pieces::{each_body_is_in_one_piece, pieces_stand_in_tree_order};
 pub use pulls::{a_pull_is_below_the_bound, a_term_is_at_most_the_constant_times_the_mass};
 pub use trees::{
     an_octree_has_at_most_21_cells_a_body, cells_are_where_two_bodies_lie,

@@ -5,3 +5,4 @@ pub mod Roots
 pub mod Distances
 mod Decimals
 pub mod SeenPoints
+pub mod Nested

@@ -3,3 +3,4 @@ pub mod Points
 pub mod Distinct
 pub mod Decimal
 pub mod Numbers
+pub mod Prefixes
