@@ -2,3 +2,4 @@ mod ListZones
 mod ListMoments
 mod ListPulls
 pub mod ListBlocks
+mod ListPieces

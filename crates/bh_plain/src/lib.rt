@@ -5,6 +5,7 @@
 
 mod blocks;
 mod moments;
+mod pieces;
 mod pulls;
 #[cfg(test)]
 mod tests;
@@ -13,6 +14,7 @@ mod zones;
 
 pub use blocks::plain_blocks;
 pub use moments::plain_moment;
+pub use pieces::plain_pieces;
 pub use pulls::plain_pull;
 pub use trees::{plain_order, plain_text};
 pub use zones::plain_zone;
