@@ -6,7 +6,6 @@ use Rattle.std.proofs.lemmas.List.{length-take}
 use Rattle.std.proofs.lemmas.List.Filters.{length-filter_more}
 use Rattle.std.proofs.Math.Nat.{pow-suc}
 use Rattle.std.proofs.lemmas.Nat.{pow-add}
-use Rattle.octant_code.proofs.Keys.{pow8-mono}
 use Rattle.bh_model.proofs.Equal.{same_or_not}
 use Rattle.space_split.specs.Ranges.{octant_count, octant_of_code}
 use Rattle.space_split.proofs.Divisions.{part_few}

@@ -1,5 +1,5 @@
 -- What dividing cubes of a list of codes keeps: they are cubes of the list, and the undivided cubes below them stay.
-use Rattle.std.proofs.Common.{ℕ, ◌+◌, ◌-◌, ◌*◌, ◌/◌, ◌%◌, ◌^◌, ◌<◌, ◌≤◌, ◌≡◌, ◌≢◌, ◌⊎◌, zero, suc, refl, sym, subst, ◌∙◌, ap, inl, inr, arith, List, [], ◌∷◌, ◌++◌}
+use Rattle.std.proofs.Common.{ℕ, ◌+◌, ◌-◌, ◌*◌, ◌/◌, ◌^◌, ◌<◌, ◌≤◌, ◌≡◌, ◌⊎◌, suc, refl, sym, subst, ◌∙◌, ap, inl, inr, arith, List, [], ◌∷◌, ◌++◌}
 use Rattle.std.proofs.Common.{Bool, length, take, drop, eqb, append-nil, add-one, All, flat_map, map, get_or}
 use Rattle.std.specs.Prelude.{nat_lt}
 use Rattle.std.specs.List.{filter}
@@ -9,12 +9,12 @@ use Rattle.std.proofs.Math.Nat.{div-div-eq-div-mul, div-mul-le_self, pow-suc}
 use Rattle.std.proofs.lemmas.Bool.{cases_Bool, cases_lt, le-leb, lt-leb, eqb-true, eq-eqb, ne_eqb}
 use Rattle.std.proofs.lemmas.Grind.{flat_map-append}
 use Rattle.std.proofs.lemmas.List.{length-drop, length-take-le}
-use Rattle.std.proofs.lemmas.List.Elements.{All-append, All-cons, All-nil, All-filter, All-get_or}
+use Rattle.std.proofs.lemmas.List.Elements.{All-append, All-cons, All-nil}
 use Rattle.std.proofs.lemmas.List.Sorted.{IsNonDecreasingBy-drop, IsNonDecreasingBy-take}
 use Rattle.std.proofs.lemmas.Nat.{le-div}
 use Rattle.octant_code.proofs.Keys.{pow8-mono}
-use Rattle.bh_model.specs.Pieces.{cubes_from, in_turn, of_octant}
-use Rattle.bh_model.proofs.Pieces.{all_rows, cubes-few, cubes-last, cubes-many, cubes-none, earlier_more, flat_map_rows, in_turn-same, octants_sum, rows}
+use Rattle.bh_model.specs.Pieces.{cubes_from, of_octant}
+use Rattle.bh_model.proofs.Pieces.{all_rows, cubes-few, cubes-last, cubes-many, cubes-none, earlier_more, flat_map_rows, in_turn-same}
 use Rattle.space_split.specs.declared.cube.Cube.{Cube}
 use Rattle.space_split.specs.Ranges.{AreCubesOf, IsRange, child_of, codes_of, cubes_at, division_of, earlier_count, octant_count, octant_of_code, pair_of}
 use Rattle.space_split.proofs.Slices.{equal, higher, lower, middle_slice, three_parts}

@@ -1,17 +1,14 @@
 -- One octant more of a cube that is divided, and cubes dealt to workers.
-use Rattle.std.proofs.Common.{ℕ, ◌+◌, ◌-◌, ◌*◌, ◌/◌, ◌<◌, ◌≤◌, ◌≡◌, ◌^◌, zero, suc, refl, sym, ◌∙◌, ap, subst, arith, List, [], ◌∷◌, ◌++◌, append_assoc, append-nil, All, drop, eqb, get_or, length, map}
+use Rattle.std.proofs.Common.{ℕ, ◌+◌, ◌*◌, ◌<◌, ◌≡◌, ◌^◌, zero, suc, refl, sym, ◌∙◌, ap, arith, List, [], ◌∷◌, ◌++◌, append_assoc, append-nil, get_or, length, map}
 use Rattle.std.specs.List.{AllZip, range_with_len}
 use Rattle.std.proofs.lemmas.Bool.{eq-eqb, ne_eqb}
-use Rattle.std.proofs.Math.Seq.{drop-cons}
 use Rattle.std.proofs.lemmas.List.{map-append}
 use Rattle.std.proofs.lemmas.List.FromFn.{map-range_with_len_more}
 use Rattle.octant_code.proofs.Keys.{pow8-mono}
 use Rattle.bh_model.specs.Bodies.{numbers}
-use Rattle.bh_model.specs.Pieces.{dealt}
-use Rattle.bh_model.specs.declared.piece.Piece.{Piece}
 use Rattle.bh_model.proofs.Pieces.{rows, rows_more}
 use Rattle.space_split.specs.declared.cube.Cube.{Cube}
-use Rattle.space_split.specs.Ranges.{child_of, codes_of, earlier_count, octant_count, pair_of}
+use Rattle.space_split.specs.Ranges.{child_of, codes_of, earlier_count, octant_count}
 
 -- the key of an octant fits its word
 pub key_fits : (key level : ℕ) → level < 21 → key < 2 * 8 ^ level → 8 * key + 7 < 2 ^ 64
@@ -60,18 +57,3 @@ made_cube x y z = record { key = x; start = y; count = z }
 -- a cube is its parts
 pub cube_parts : (a b c d e f : ℕ) → a ≡ d → b ≡ e → c ≡ f → made_cube a b c ≡ made_cube d e f
 cube_parts a b c d e f p q r = ap (λ u. made_cube u b c) p ∙ ap (λ u. made_cube d u c) q ∙ ap (λ u. made_cube d e u) r
-
--- ---- cubes dealt to workers
-
--- one more piece
-pub dealt_more : (whole workers before : ℕ) (cubes : List Cube) (i : ℕ) (d : Cube) (pieces more all : List Piece) (piece : Piece) → i < length cubes
-    → piece ≡ record { key = (get_or cubes i d).key; count = (get_or cubes i d).count; worker = before * workers / whole }
-    → more ≡ pieces ++ (piece ∷ [])
-    → pieces ++ dealt whole workers before (map pair_of (drop i cubes)) ≡ all
-    → more ++ dealt whole workers (before + (get_or cubes i d).count) (map pair_of (drop (i + 1) cubes)) ≡ all
-dealt_more whole workers before cubes i d pieces more all piece l is e m =
-    let next : suc i ≡ i + 1 = omega arith in
-    let rest : List Piece = dealt whole workers (before + (get_or cubes i d).count) (map pair_of (drop (i + 1) cubes)) in
-    let split : drop i cubes ≡ get_or cubes i d ∷ drop (i + 1) cubes = drop-cons cubes i d l ∙ ap (λ y. get_or cubes i d ∷ drop y cubes) next in
-    ap (λ y. y ++ rest) e ∙ append_assoc pieces (piece ∷ []) rest ∙ ap (λ y. pieces ++ (y ∷ rest)) is
-    ∙ ap (λ y. pieces ++ dealt whole workers before (map pair_of y)) (sym split) ∙ m

@@ -1,8 +1,6 @@
-use Rattle.std.proofs.Common.{ℕ, ◌≡◌, ◌<◌, ◌∙◌, ap, get_or, List, subst, sym}
+use Rattle.std.proofs.Common.{ℕ, ◌≡◌, ◌<◌, ◌∙◌, ap, get_or}
 use Rattle.rayon.proofs.ToStd.{slice-AllZip}
-use Rattle.std.specs.List.{AllZip}
 use Rattle.space_split.specs.Ranges.{codes_of, octant_count}
-use Rattle.space_split.specs.declared.cube.Cube.{Cube}
 use Rattle.space_split.proofs.count.count_all.Goals as goal
 
 pub returns : goal.returns

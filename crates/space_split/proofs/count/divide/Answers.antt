@@ -1,5 +1,4 @@
-use Rattle.std.proofs.Common.{ℕ, ◌≡◌, ◌<◌, ◌∙◌, [], arith, ap, get_or, length, List, subst, sym, flat_map, take}
-use Rattle.std.specs.List.{AllZip}
+use Rattle.std.proofs.Common.{ℕ, ◌≡◌, ◌<◌, [], arith, get_or, List, subst, sym}
 use Rattle.space_split.specs.Ranges.{codes_of, octant_count}
 use Rattle.space_split.specs.declared.cube.Cube.{Cube}
 use Rattle.space_split.proofs.Pushes.{at_place}

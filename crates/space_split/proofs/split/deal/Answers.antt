@@ -1,7 +1,6 @@
-use Rattle.std.proofs.Common.{arith, ◌≤◌, ◌≡◌, ◌+◌, get_or, sum_by, take, length, ap, ◌∙◌}
-use Rattle.std.proofs.lemmas.List.Sums.{sum_by_more, sum_by_more_le}
+use Rattle.std.proofs.Common.{arith}
+use Rattle.std.proofs.lemmas.List.Sums.{sum_by_more_le}
 use Rattle.space_split.specs.declared.cube.Cube.{Cube}
-use Rattle.space_split.proofs.Pushes.{dealt_more}
 use Rattle.space_split.proofs.split.deal.Goals as goal
 
 pub nonzero_div-worker : goal.nonzero_div-worker

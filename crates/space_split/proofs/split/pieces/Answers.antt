@@ -1,7 +1,7 @@
-use Rattle.std.proofs.Common.{ℕ, ◌≡◌, ◌≤◌, ◌∙◌, List, All, ap, arith, length, map, subst, sum_by, sym}
+use Rattle.std.proofs.Common.{◌≡◌, ◌∙◌, ap, arith, length, map, sum_by, sym}
 use Rattle.rayon.proofs.ListFacts.{IfOk-then}
 use Rattle.octant_code.specs.Points.{site_at}
-use Rattle.bh_model.specs.Pieces.{cubes_from, dealt}
+use Rattle.bh_model.specs.Pieces.{cubes_from}
 use Rattle.space_split.specs.Ranges.{octant_of_code, pair_of}
 use Rattle.space_split.specs.declared.cube.Cube.{Cube}
 use Rattle.space_split.proofs.Coded.{as_many, counts_are_all, pieces_of_codes}

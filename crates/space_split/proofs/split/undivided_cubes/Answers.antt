@@ -1,4 +1,4 @@
-use Rattle.std.proofs.Common.{◌≡◌, ◌≤◌, ◌∙◌, All, List, ap, arith, flat_map, inl, inr, subst, sym}
+use Rattle.std.proofs.Common.{◌≡◌, ◌≤◌, ◌∙◌, All, ap, arith, flat_map, inl, inr, subst}
 use Rattle.space_split.specs.Ranges.{division_of}
 use Rattle.space_split.specs.declared.cube.Cube.{Cube}
 use Rattle.space_split.proofs.Divisions.{all_undivided, next_level}
