@@ -1,5 +1,6 @@
 -- The pieces into which space is divided by counts of bodies (SPACE of Shan and Singh, IPPS 1998, in outline; the numbers are this project's own).
 use Rattle.std.specs.Prelude.{ℕ, ◌+◌, ◌*◌, ◌/◌, ◌≡◌, zero, suc, max, eqb, nat_le, if◌then◌else◌, List, [], ◌∷◌, ◌++◌, filter, length}
+use Rattle.octant_code.specs.declared.limits.TheConstants.{LEVELS}
 use Rattle.octant_code.specs.Space.{IsUnder, Site, octant_of}
 use Rattle.bh_model.specs.Bodies.{IsIn}
 use Rattle.bh_model.specs.declared.piece.Piece.{Piece}
@@ -38,7 +39,7 @@ octants_of site n level = octant_of (site n) level
 -- the pieces of a list of bodies for so many workers
 abbrev pub pieces : (ℕ → Site) → ℕ → List ℕ → List Piece
 pieces site workers bodies =
-    dealt (length bodies) workers 0 (cubes_from (octants_of site) (piece_limit (length bodies) workers) 21 0 1 bodies)
+    dealt (length bodies) workers 0 (cubes_from (octants_of site) (piece_limit (length bodies) workers) LEVELS 0 1 bodies)
 
 -- a point lies under exactly one key of a list
 pub record IsUnderOne (keys : List ℕ) (s : Site) : Type 0 where
