@@ -47,11 +47,3 @@ pub record IsAt (v : View) (words : ℕ) (sites : List Site) (n : ℕ) (s : Spot
 abbrev pub LeadsTo : View → View → ℕ → List ℕ → ℕ → Turn → Type 0
 LeadsTo v w n spare key (turn.Done used) = (used ≤ length spare) × IsPutIn v w n (take used spare)
 LeadsTo v w n spare key (turn.Below d) = Descends v w key d
-
--- what an insertion leaves of a pass: body n has gone from todo to done by one publication
-pub record HasPut (v w : View) (n : ℕ) : Type 0 where
-  pub points : w.points ≡ v.points
-  pub todo : w.todo ≡ without n v.todo
-  pub done : w.done ≡ n ∷ v.done
-  pub seen : w.seen ≡ v.seen
-  pub changes : w.changes ≡ v.changes + 1
