@@ -16,7 +16,8 @@ use std::sync::ledger::Ledger;
 use tree_rule::CELLS_OF_ONE;
 
 /// A shared octree, into which any number of passes insert at the same time, and none of them waits.
-/// Contracts see it as a `SharedTree`: which table its words stand in, and what it was opened with.
+/// Contracts see it as a `SharedTree`: how its words are written, which table they stand in, and what it
+/// was opened with.
 #[derive(Drop)]
 pub struct FreeTree {
     pub(crate) parts: TreeParts,
