@@ -58,7 +58,8 @@ returns-clause-tree g c =
     let sites = c.deref-3.ensures in
     let shares = map (λ s. s.items) c.args.shares.now in
     let done = c.work_shares.new.pass.done in
-    let each = put_each (length (arc_value c.args.points.now)) c.in_ok-tree.tree one_for_each shares c.work_shares.new.pass c.requires c.in_ok-work_shares.ensures in
+    let bodies = length (arc_value c.args.points.now) in
+    let each = put_each bodies c.in_ok-tree.tree one_for_each shares c.work_shares.new.pass c.requires c.in_ok-work_shares.ensures in
     subst (λ (s : List Site). IsOctreeOf s c.close-octree.result) sites
     (octree_put c.deref-3.result.now c.in_ok-tree.tree.opening done c.work_shares.new.pass.seen c.close-octree.result
     (c.in_ok-tree.ensures.points ∙ sym sites) c.close-octree.ensures.tree (c.in_ok-tree.ensures.words 0 ∙ c.in_ok-start.ensures.empty)
@@ -68,7 +69,8 @@ returns-clause-tree g c =
 pub returns-clause-published : goal.returns-clause-published
 returns-clause-published g c =
     let shares = map (λ s. s.items) c.args.shares.now in
-    let count = put_count (length (arc_value c.args.points.now)) c.in_ok-tree.tree one_for_each shares c.work_shares.new.pass c.requires c.in_ok-work_shares.ensures in
+    let bodies = length (arc_value c.args.points.now) in
+    let count = put_count bodies c.in_ok-tree.tree one_for_each shares c.work_shares.new.pass c.requires c.in_ok-work_shares.ensures in
     ap (λ (y : YardCounts). y.published) c.close-octree.ensures.counts
     ∙ ap (λ (y : YardCounts). risen y.published (length c.work_shares.new.pass.done)) c.in_ok-tree.ensures.yard
     ∙ ap (risen c.args.yard.now.published) count
@@ -76,6 +78,7 @@ returns-clause-published g c =
 pub returns-clause-changes : goal.returns-clause-changes
 returns-clause-changes g c =
     let shares = map (λ s. s.items) c.args.shares.now in
-    let changes = put_changes (length (arc_value c.args.points.now)) c.in_ok-tree.tree shares c.work_shares.new.pass c.requires c.in_ok-work_shares.ensures in
+    let bodies = length (arc_value c.args.points.now) in
+    let changes = put_changes bodies c.in_ok-tree.tree shares c.work_shares.new.pass c.requires c.in_ok-work_shares.ensures in
     ap (λ (y : YardCounts). y.changes) c.close-octree.ensures.counts
     ∙ ap (λ (y : YardCounts). risen y.changes c.work_shares.new.pass.changes) c.in_ok-tree.ensures.yard ∙ ap (risen c.args.yard.now.changes) changes
