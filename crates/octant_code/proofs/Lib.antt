@@ -6,3 +6,4 @@ pub mod Distances
 mod Decimals
 pub mod SeenPoints
 pub mod Nested
+mod Levels

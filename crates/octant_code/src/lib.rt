@@ -17,5 +17,5 @@ pub use memory::OutOfMemory;
 pub use numbers::{isqrt, short_isqrt, trunc_div};
 pub use point::Point;
 pub use points::{Distinct, Points};
-pub use space::{key_at, key_has, octant, squared_distance};
+pub use space::{key_at, key_has, level_of, octant, squared_distance};
 pub use steps::Steps;

@@ -1,6 +1,7 @@
 //! The octants that a point lies in, and the keys of the cubes around it.
 
 ghost use Rattle.std.specs.Prelude.{◌≡◌, ◌↔◌, ◌*◌, ◌<◌, ◌≤◌, ◌^◌, IsTrue};
+ghost use Rattle.octant_code.specs.Prefixes.{IsKeyOfLevel};
 ghost use Rattle.octant_code.specs.Space.{IsKey, IsUnder, key_of, octant_of, squared_distance, squared_gap};
 
 use crate::limits::LEVELS;
@@ -31,6 +32,22 @@ pub fn key_at(p: Point, level: u32) -> u64
         key = 8 * key + u64::from(octant(p, i));
     }
     key
+}
+
+/// The level, 0 to 21, of the cube of a key.
+pub fn level_of(key: u64) -> u32
+    requires { IsKey key }
+    ensures level { IsKeyOfLevel result key }
+    ensures shallow { result ≤ LEVELS }
+{
+    let mut rest = key;
+    for level in 0..LEVELS {
+        if rest < 8 {
+            return level;
+        }
+        rest /= 8;
+    }
+    LEVELS
 }
 
 /// Whether a point lies in the cube of a key.

@@ -10,7 +10,7 @@ use crate::ranks::{body_of, ranks_of};
 use crate::subtree::Subtree;
 use crate::text::put_tree;
 use bh_outside::{Failed, Sink, TextBuffer};
-use octant_code::{LEVELS, OutOfMemory, Points, key_at};
+use octant_code::{LEVELS, OutOfMemory, Points, key_at, level_of};
 use std::alloc::Global;
 use std::marker::Model;
 use tree_rule::{CELLS_OF_ONE, MOST_CELLS, place_of_child, word_of_body, word_of_cell};
@@ -50,7 +50,8 @@ impl Model for Octree {
 
 impl Octree {
     ghost use Rattle.std.specs.Prelude.{◌≡◌, ◌+◌, ◌-◌, ◌*◌, ◌<◌, ◌≤◌, ◌↔◌, ℕ, List, [], IfOk, OnOk, OnErr, length};
-    ghost use Rattle.octant_code.specs.Space.{Site, IsUnder};
+    ghost use Rattle.octant_code.specs.Prefixes.{IsKeyOfLevel};
+    ghost use Rattle.octant_code.specs.Space.{Site, IsKey, IsUnder};
     ghost use Rattle.octant_code.specs.Points.{site_at};
     ghost use Rattle.bh_model.specs.Bodies.{IsIn, NoneTwice, numbers};
     ghost use Rattle.bh_model.specs.Trees.{cell_count, depth, octree_from, order, text};
@@ -73,15 +74,50 @@ impl Octree {
         ensures held { IfOk result (λ t. t.held ≡ cells) }
         ensures empty { IfOk result (λ t. root_word t ≡ 0) }
     {
+        Octree::with_cube(alloc, 1, 0, cells)
+    }
+
+    /// The empty tree of the cube of a key, with spare cells: at most 1,376,256.
+    pub fn under(alloc: Global, key: u64, cells: u32) -> Result<Octree, OutOfMemory>
+        requires key { IsKey key }
+        requires cells { cells ≤ MOST_CELLS }
+        ensures base { IfOk result (λ t. t.base ≡ key) }
+        ensures level { IfOk result (λ t. IsKeyOfLevel t.level key) }
+        ensures used { IfOk result (λ t. t.used ≡ 0) }
+        ensures held { IfOk result (λ t. t.held ≡ cells) }
+        ensures empty { IfOk result (λ t. root_word t ≡ 0) }
+    {
+        Octree::with_cube(alloc, key, level_of(key), cells)
+    }
+
+    /// The empty tree of a cube, by its key and its level.
+    fn with_cube(alloc: Global, key: u64, level: u32, cells: u32) -> Result<Octree, OutOfMemory>
+        requires key { IsKeyOfLevel level key }
+        requires shallow { level ≤ LEVELS }
+        requires cells { cells ≤ MOST_CELLS }
+        ensures base { IfOk result (λ t. t.base ≡ key) }
+        ensures level { IfOk result (λ t. t.level ≡ level) }
+        ensures used { IfOk result (λ t. t.used ≡ 0) }
+        ensures held { IfOk result (λ t. t.held ≡ cells) }
+        ensures empty { IfOk result (λ t. root_word t ≡ 0) }
+    {
         let mut words = Vec::with_capacity(alloc, words_of_cells(cells))?;
         words.resize(words_of_cells(0), 0)?;
         Ok(Octree {
             words,
-            base: 1,
-            level: 0,
+            base: key,
+            level,
             used: 0,
             held: cells,
         })
+    }
+
+    /// The key of the tree's cube.
+    pub fn base(&self) -> u64
+        ensures value { result ≡ self.now.base }
+        ensures key { IsKeyOfLevel self.now.level result }
+    {
+        self.base
     }
 
     /// How many cells the octree has, reachable or not, the spare ones among them. The numbers of its
