@@ -1,5 +1,6 @@
 -- The undivided cubes of a list of bodies part the bodies, and their keys stand in tree order.
-use Rattle.std.proofs.Common.{ℕ, ◌+◌, ◌*◌, ◌/◌, ◌<◌, ◌≤◌, ◌≡◌, ◌⊎◌, zero, suc, refl, sym, ◌∙◌, ap, subst, inl, inr, arith, List, [], ◌∷◌, ◌++◌, All, length, map, sum_by}
+use Rattle.std.proofs.Common.{ℕ, ◌+◌, ◌*◌, ◌/◌, ◌<◌, ◌≤◌, ◌≡◌, ◌⊎◌, zero, suc, refl, sym, ◌∙◌}
+use Rattle.std.proofs.Common.{ap, subst, inl, inr, arith, List, [], ◌∷◌, ◌++◌, All, length, map, sum_by}
 use Rattle.std.proofs.lemmas.Bool.{cases_lt}
 use Rattle.std.proofs.lemmas.List.{map-append}
 use Rattle.std.proofs.lemmas.List.Elements.{All-append, All-cons, All-nil}
@@ -47,7 +48,8 @@ all_members P (x ∷ xs) h = All-cons P x xs (h x (inl refl)) (all_members P xs 
 order_append : (xs ys : List ℕ) → AreInTreeOrder xs → AreInTreeOrder ys → ((a b : ℕ) → IsIn xs a → IsIn ys b → IsBefore a b) → AreInTreeOrder (xs ++ ys)
 order_append [] ys p q cross = q
 order_append (x ∷ xs) ys p q cross =
-    (All-append (IsBefore x) xs ys p.0 (all_members (IsBefore x) ys (λ b j. cross x b (inl refl) j)), order_append xs ys p.1 q (λ a b i j. cross a b (inr i) j))
+    (All-append (IsBefore x) xs ys p.0 (all_members (IsBefore x) ys (λ b j. cross x b (inl refl) j)), order_append xs ys p.1 q (λ a b i j. cross a b
+        (inr i) j))
 
 -- octants one after another
 order_rows : (f : ℕ → List (ℕ × ℕ)) (key m : ℕ) → 1 ≤ key → m ≤ 8 → ((k : ℕ) → k < m → AreInTreeOrder (keys_of (f k)))
@@ -55,7 +57,8 @@ order_rows : (f : ℕ → List (ℕ × ℕ)) (key m : ℕ) → 1 ≤ key → m �
 order_rows f key zero some small each below = tt
 order_rows f key (suc m) some small each below =
     subst AreInTreeOrder (sym (key_rows f m))
-    (order_append (keys_of (rows f m)) (keys_of (f m)) (order_rows f key m some (omega arith) (λ k l. each k (omega arith)) (λ k a l i. below k a (omega arith) i))
+    (order_append (keys_of (rows f m)) (keys_of (f m)) (order_rows f key m some (omega arith) (λ k l. each k (omega arith)) (λ k a l i. below k a
+        (omega arith) i))
     (each m (omega arith))
     (λ a b i j.
     let r = from_row f m a i in
@@ -111,7 +114,8 @@ cubes_stand o most (suc below) level key xs some = elim (cubes_are o most (suc b
     | inl one ↦ subst (λ (y : List (ℕ × ℕ)). StandBelow key (keys_of y)) (sym one) (stand_one key some)
     | inr many ↦
         let f : ℕ → List (ℕ × ℕ) = λ k. cubes_from o most below (suc level) (8 * key + k) (of_octant o level k xs) in
-        let kids : (k : ℕ) → StandBelow (8 * key + k) (keys_of (f k)) = λ k. cubes_stand o most below (suc level) (8 * key + k) (of_octant o level k xs) (omega arith) in
+        let kids : (k : ℕ) → StandBelow (8 * key + k) (keys_of (f k)) =
+            λ k. cubes_stand o most below (suc level) (8 * key + k) (of_octant o level k xs) (omega arith) in
         subst (λ (y : List (ℕ × ℕ)). StandBelow key (keys_of y)) (sym (cubes-many o most below level key xs many.0)) (record {
           below = λ a i. let r = from_row f 8 a i in prefix_then key (8 * key + r.0) a (prefix_child key r.0 some r.1) ((kids r.0).below a r.2);
           order = order_rows f key 8 some (omega arith) (λ k l. (kids k).order) (λ k a l i. (kids k).below a i);
@@ -187,7 +191,8 @@ abbrev pub cubes_of : (ℕ → Site) → ℕ → List ℕ → List (ℕ × ℕ)
 cubes_of site workers bodies = cubes_from (octants_of site) (piece_limit (length bodies) workers) 21 0 1 bodies
 
 -- the keys of the pieces are those of the cubes
-pub piece_keys : (site : ℕ → Site) (workers : ℕ) (bodies : List ℕ) → map (λ (p : Piece). p.key) (pieces site workers bodies) ≡ keys_of (cubes_of site workers bodies)
+pub piece_keys : (site : ℕ → Site) (workers : ℕ) (bodies : List ℕ)
+    → map (λ (p : Piece). p.key) (pieces site workers bodies) ≡ keys_of (cubes_of site workers bodies)
 piece_keys site workers bodies = dealt_keys (length bodies) workers 0 (cubes_of site workers bodies)
 
 -- and they stand in tree order

@@ -1,5 +1,6 @@
 -- The code of a point tells its octants, and the cubes of codes are those of the bodies.
-use Rattle.std.proofs.Common.{ℕ, ◌+◌, ◌-◌, ◌*◌, ◌/◌, ◌^◌, ◌<◌, ◌≤◌, ◌≡◌, suc, refl, sym, ◌∙◌, ap, arith, List, [], ◌∷◌, ◌++◌, map, length, All, append-nil, drop, sum_by, take}
+use Rattle.std.proofs.Common.{ℕ, ◌+◌, ◌-◌, ◌*◌, ◌/◌, ◌^◌, ◌<◌, ◌≤◌, ◌≡◌, suc, refl, sym, ◌∙◌}
+use Rattle.std.proofs.Common.{ap, arith, List, [], ◌∷◌, ◌++◌, map, length, All, append-nil, drop, sum_by, take}
 use Rattle.std.specs.List.Sorted.{IsPermutation}
 use Rattle.std.proofs.lemmas.List.{length-map}
 use Rattle.std.proofs.lemmas.List.Elements.{All-cons, All-nil}

@@ -1,5 +1,6 @@
 -- One octant more of a cube that is divided, and cubes dealt to workers.
-use Rattle.std.proofs.Common.{ℕ, ◌+◌, ◌*◌, ◌<◌, ◌≡◌, ◌^◌, zero, suc, refl, sym, ◌∙◌, ap, arith, List, [], ◌∷◌, ◌++◌, append_assoc, append-nil, get_or, length, map}
+use Rattle.std.proofs.Common.{ℕ, ◌+◌, ◌*◌, ◌<◌, ◌≡◌, ◌^◌, zero, suc, refl, sym, ◌∙◌}
+use Rattle.std.proofs.Common.{ap, arith, List, [], ◌∷◌, ◌++◌, append_assoc, append-nil, get_or, length, map}
 use Rattle.std.specs.List.{AllZip, range_with_len}
 use Rattle.std.proofs.lemmas.Bool.{eq-eqb, ne_eqb}
 use Rattle.std.proofs.lemmas.List.{map-append}
@@ -16,11 +17,13 @@ key_fits key level deep small = omega (arith, pow8-mono level 20 (omega arith))
 
 -- an octant that holds a body
 pub pushed : (codes : List ℕ) (level : ℕ) (cube child : Cube) (k : ℕ) (before now next : List Cube)
-    → child ≡ record { key = 8 * cube.key + k; start = cube.start + earlier_count (codes_of codes cube) level k; count = octant_count (codes_of codes cube) level k }
+    → child ≡ record { key = 8 * cube.key + k; start = cube.start + earlier_count (codes_of codes cube) level k; count =
+        octant_count (codes_of codes cube) level k }
     → 0 < octant_count (codes_of codes cube) level k → now ≡ before ++ rows (child_of codes level cube) k → next ≡ now ++ (child ∷ [])
     → next ≡ before ++ rows (child_of codes level cube) (k + 1)
 pushed codes level cube child k before now next is some m e =
-    let own : child_of codes level cube k ≡ child ∷ [] = rw (ne_eqb (octant_count (codes_of codes cube) level k) 0 (λ z. omega arith)) (ap (λ c. c ∷ []) (sym is)) in
+    let own : child_of codes level cube k ≡ child ∷ [] = rw (ne_eqb (octant_count (codes_of codes cube) level k) 0 (λ z. omega arith)) (ap
+        (λ c. c ∷ []) (sym is)) in
     e ∙ ap (λ y. y ++ (child ∷ [])) m ∙ append_assoc before (rows (child_of codes level cube) k) (child ∷ [])
     ∙ ap (λ y. before ++ (rows (child_of codes level cube) k ++ y)) (sym own)
     ∙ ap (λ y. before ++ y) (sym (rows_more (child_of codes level cube) k))

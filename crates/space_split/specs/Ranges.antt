@@ -1,5 +1,6 @@
 -- Cubes whose bodies stand side by side in a list of codes, and what dividing them gives.
-use Rattle.std.specs.Prelude.{ℕ, flat_map, ◌+◌, ◌-◌, ◌*◌, ◌/◌, ◌%◌, ◌^◌, ◌<◌, ◌≤◌, ◌≡◌, All, nat_eq, nat_le, nat_lt, if◌then◌else◌, List, [], ◌∷◌, drop, filter, length, take}
+use Rattle.std.specs.Prelude.{ℕ, flat_map, ◌+◌, ◌-◌, ◌*◌, ◌/◌, ◌%◌, ◌^◌, ◌<◌, ◌≤◌, ◌≡◌}
+use Rattle.std.specs.Prelude.{All, nat_eq, nat_le, nat_lt, if◌then◌else◌, List, [], ◌∷◌, drop, filter, length, take}
 use Rattle.std.specs.List.Sorted.{IsNonDecreasing}
 use Rattle.bh_model.specs.Pieces.{cubes_from, in_turn, of_octant}
 use Rattle.space_split.specs.declared.cube.Cube.{Cube}
