@@ -47,9 +47,11 @@ all_members P (x ∷ xs) h = All-cons P x xs (h x (inl refl)) (all_members P xs 
 -- two lists in tree order, each of the first before each of the second
 order_append : (xs ys : List ℕ) → AreInTreeOrder xs → AreInTreeOrder ys → ((a b : ℕ) → IsIn xs a → IsIn ys b → IsBefore a b) → AreInTreeOrder (xs ++ ys)
 order_append [] ys p q cross = q
-order_append (x ∷ xs) ys p q cross =
-    (All-append (IsBefore x) xs ys p.0 (all_members (IsBefore x) ys (λ b j. cross x b (inl refl) j)), order_append xs ys p.1 q (λ a b i j. cross a b
-        (inr i) j))
+order_append (x ∷ xs) ys p q cross = (
+  All-append (IsBefore x) xs ys p.0 (all_members (IsBefore x) ys (λ b j. cross x b (inl refl) j)),
+  order_append xs ys p.1 q (λ a b i j. cross a b
+      (inr i) j),
+)
 
 -- octants one after another
 order_rows : (f : ℕ → List (ℕ × ℕ)) (key m : ℕ) → 1 ≤ key → m ≤ 8 → ((k : ℕ) → k < m → AreInTreeOrder (keys_of (f k)))
@@ -58,7 +60,7 @@ order_rows f key zero some small each below = tt
 order_rows f key (suc m) some small each below =
     subst AreInTreeOrder (sym (key_rows f m))
     (order_append (keys_of (rows f m)) (keys_of (f m)) (order_rows f key m some (omega arith) (λ k l. each k (omega arith)) (λ k a l i. below k a
-        (omega arith) i))
+    (omega arith) i))
     (each m (omega arith))
     (λ a b i j.
     let r = from_row f m a i in
@@ -115,7 +117,7 @@ cubes_stand o most (suc below) level key xs some = elim (cubes_are o most (suc b
     | inr many ↦
         let f : ℕ → List (ℕ × ℕ) = λ k. cubes_from o most below (suc level) (8 * key + k) (of_octant o level k xs) in
         let kids : (k : ℕ) → StandBelow (8 * key + k) (keys_of (f k)) =
-            λ k. cubes_stand o most below (suc level) (8 * key + k) (of_octant o level k xs) (omega arith) in
+        λ k. cubes_stand o most below (suc level) (8 * key + k) (of_octant o level k xs) (omega arith) in
         subst (λ (y : List (ℕ × ℕ)). StandBelow key (keys_of y)) (sym (cubes-many o most below level key xs many.0)) (record {
           below = λ a i. let r = from_row f 8 a i in prefix_then key (8 * key + r.0) a (prefix_child key r.0 some r.1) ((kids r.0).below a r.2);
           order = order_rows f key 8 some (omega arith) (λ k l. (kids k).order) (λ k a l i. (kids k).below a i);

@@ -34,8 +34,12 @@ child_key_fits key level deep small = omega (arith, pow8-mono level 20 (omega ar
 
 -- an octant has at most all bodies
 pub octant_few : (site : ℕ → Site) (level k : ℕ) (bodies : List ℕ) → length (in_octant site level k bodies) ≤ length bodies
-octant_few site level k bodies = omega (arith, length-filter (λ n. eqb (octant_of (site n) level) k) bodies, count_by-le-length (λ n. eqb (octant_of
-    (site n) level) k) bodies)
+octant_few site level k bodies = omega (
+  arith,
+  length-filter (λ n. eqb (octant_of (site n) level) k) bodies,
+  count_by-le-length (λ n. eqb (octant_of
+      (site n) level) k) bodies,
+)
 
 pub no_body : (bodies : List ℕ) → length bodies ≡ 0 → bodies ≡ []
 no_body [] e = refl

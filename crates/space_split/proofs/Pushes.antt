@@ -17,13 +17,17 @@ key_fits key level deep small = omega (arith, pow8-mono level 20 (omega arith))
 
 -- an octant that holds a body
 pub pushed : (codes : List ℕ) (level : ℕ) (cube child : Cube) (k : ℕ) (before now next : List Cube)
-    → child ≡ record { key = 8 * cube.key + k; start = cube.start + earlier_count (codes_of codes cube) level k; count =
-        octant_count (codes_of codes cube) level k }
+    → child ≡ record {
+      key = 8 * cube.key + k;
+      start = cube.start + earlier_count (codes_of codes cube) level k;
+      count =
+          octant_count (codes_of codes cube) level k;
+    }
     → 0 < octant_count (codes_of codes cube) level k → now ≡ before ++ rows (child_of codes level cube) k → next ≡ now ++ (child ∷ [])
     → next ≡ before ++ rows (child_of codes level cube) (k + 1)
 pushed codes level cube child k before now next is some m e =
     let own : child_of codes level cube k ≡ child ∷ [] = rw (ne_eqb (octant_count (codes_of codes cube) level k) 0 (λ z. omega arith)) (ap
-        (λ c. c ∷ []) (sym is)) in
+    (λ c. c ∷ []) (sym is)) in
     e ∙ ap (λ y. y ++ (child ∷ [])) m ∙ append_assoc before (rows (child_of codes level cube) k) (child ∷ [])
     ∙ ap (λ y. before ++ (rows (child_of codes level cube) k ++ y)) (sym own)
     ∙ ap (λ y. before ++ y) (sym (rows_more (child_of codes level cube) k))

@@ -16,7 +16,7 @@ returns-then-count-eq0 t c =
     sym (append-nil c.args.out.now.items)
     ∙ ap (λ y. c.args.out.now.items ++ y)
     (sym (ap (cubes_from o c.args.most (21 - c.args.level) c.args.level c.args.key) none
-        ∙ cubes-none o c.args.most (21 - c.args.level) c.args.level c.args.key))
+    ∙ cubes-none o c.args.most (21 - c.args.level) c.args.level c.args.key))
 
 pub returns-then-count-most : goal.returns-then-count-most
 returns-then-count-most t c =
@@ -59,11 +59,11 @@ loop-k-preserved t c =
     let site = site_at c.args.points.now in
     let part : c.deref.result.now ≡ in_octant site c.args.level c.loop-k.k c.args.bodies.now = c.deref.ensures.value ∙ c.in_ok-part.ensures in
     cubes_more c.args.out.now.items c.loop-k.out.items c.push_cubes.new.out.items
-        (octant_cubes site c.args.most c.args.level c.args.key c.args.bodies.now) c.loop-k.k
+    (octant_cubes site c.args.most c.args.level c.args.key c.args.bodies.now) c.loop-k.k
     c.loop-k.invariant
     (c.in_ok-push_cubes.ensures
     ∙ ap (λ y. c.loop-k.out.items ++ cubes_from (octants_of site) c.args.most (21 - (c.args.level + 1)) (c.args.level + 1)
-        (8 * c.args.key + c.from.result) y) part
+    (8 * c.args.key + c.from.result) y) part
     ∙ ap (λ y. c.loop-k.out.items ++ cubes_from (octants_of site) c.args.most (21 - (c.args.level + 1)) (c.args.level + 1) (8 * c.args.key + y)
     (in_octant site c.args.level c.loop-k.k c.args.bodies.now)) c.from.ensures)
 

@@ -14,7 +14,7 @@ returns-clause-codes g c =
     let items : List ℕ = c.in_ok-codes.codes.items in
     let is : c.as_mut_slice.result.now ≡ map (λ n. code_of (site n)) bodies = c.as_mut_slice.ensures.value ∙ c.in_ok-codes.ensures in
     let moved : IsPermutation (map (λ n. code_of (site n)) bodies) sorted =
-        subst (λ (y : List ℕ). IsPermutation y sorted) is c.par_sort_unstable.ensures.permutation in
+    subst (λ (y : List ℕ). IsPermutation y sorted) is c.par_sort_unstable.ensures.permutation in
     subst AreCodes
     (sym (written_back sorted items c.in_ok-codes.codes.len (c.par_sort_unstable.ensures.len ∙ ap length c.as_mut_slice.ensures.value)
     (c.in_ok-codes.codes.ok.0)))

@@ -41,7 +41,7 @@ loop-k-preserved c =
       elim c.if-count-gt0.branch [
         | then-count-gt0+in_ok-push-2 w ↦
             pushed c.args.codes.now c.args.level c.args.cube (made_cube
-                (8 * c.args.cube.key + w.from.result) c.loop-k.start n) c.loop-k.k c.args.next.now.items
+            (8 * c.args.cube.key + w.from.result) c.loop-k.start n) c.loop-k.k c.args.next.now.items
             c.loop-k.next.items c.if-count-gt0.next.items
             (cube_parts _ _ _ _ _ _ (ap (λ y. 8 * c.args.cube.key + y) w.from.ensures) c.loop-k.invariant.0 count)
             (omega (arith, w.if-count-gt0.true, count)) c.loop-k.invariant.1
@@ -49,7 +49,7 @@ loop-k-preserved c =
         | else-count-gt0 w ↦
             ap (λ v. v.items) w.next-is
             ∙ passed c.args.codes.now c.args.level c.args.cube c.loop-k.k c.args.next.now.items c.loop-k.next.items (omega
-                (arith, w.if-count-gt0.false, count))
+            (arith, w.if-count-gt0.false, count))
             c.loop-k.invariant.1
       ],
     )

@@ -19,5 +19,10 @@ pub overflow_add-before : goal.overflow_add-before
 overflow_add-before c =
     let i = c.loop-cube.cube-index in
     let none : Cube = record { key = 0; start = 0; count = 0 } in
-    omega (arith, sum_by_more_le (λ (q : Cube). q.count) c.args.cubes.now i none c.loop-cube-test.true, c.loop-cube.invariant.0, c.requires.whole,
-        c.ranges.whole)
+    omega (
+      arith,
+      sum_by_more_le (λ (q : Cube). q.count) c.args.cubes.now i none c.loop-cube-test.true,
+      c.loop-cube.invariant.0,
+      c.requires.whole,
+      c.ranges.whole,
+    )
