@@ -3,7 +3,7 @@
 use octant_code::Steps;
 use shared_tree::{Publisher, Spot};
 use std::sync::ledger::Ledger;
-use tree_passes::{Pass, Words, exchange};
+use tree_passes::{Batch, Pass, Words, exchange};
 
 /// What publishes by one exchange of the published word.
 pub struct Exchanger;
@@ -14,17 +14,15 @@ impl Publisher for Exchanger {
     ghost writing = { ByExchange };
 
     #[inline]
-    fn publish<L: Ledger>(
+    fn publish<B: Batch, L: Ledger>(
         &self,
         table: &Words,
         pass: &mut Pass,
         spot: Spot,
         old: u64,
         new: u64,
-        cells: &[u32],
-        bodies: &[u32],
         steps: &mut Steps<L>,
     ) -> u64 {
-        exchange(table, pass, spot.word, old, new, cells, bodies, steps)
+        exchange::<B, L>(table, pass, spot.word, old, new, steps)
     }
 }

@@ -10,7 +10,7 @@ use std::hint;
 use std::sync::Wait;
 use std::sync::ledger::Ledger;
 use std::thread::yield_now;
-use tree_passes::{Pass, Words, load_locked, store_locked, try_lock, unlock};
+use tree_passes::{Batch, Pass, Words, load_locked, store_locked, try_lock, unlock};
 
 // How often a lock is tried before other threads are let run.
 const TRIES: u32 = 64;
@@ -51,15 +51,13 @@ impl<'a, R: Wait> Publisher for Locking<'a, R> {
     ghost writing = { UnderLocks };
 
     #[inline]
-    fn publish<L: Ledger>(
+    fn publish<B: Batch, L: Ledger>(
         &self,
         table: &Words,
         pass: &mut Pass,
         spot: Spot,
         old: u64,
         new: u64,
-        cells: &[u32],
-        bodies: &[u32],
         steps: &mut Steps<L>,
     ) -> u64 {
         steps.tick();
@@ -69,7 +67,7 @@ impl<'a, R: Wait> Publisher for Locking<'a, R> {
             unlock(table, pass, spot.lock);
             return found;
         }
-        store_locked(table, pass, spot.word, old, new, cells, bodies);
+        store_locked::<B>(table, pass, spot.word, old, new);
         unlock(table, pass, spot.lock);
         found
     }

@@ -3,3 +3,4 @@ pub mod Ends
 pub mod Finding
 pub mod Publishing
 pub mod Inserting
+pub mod Copying

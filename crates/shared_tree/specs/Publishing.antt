@@ -7,7 +7,10 @@ use Rattle.tree_passes.specs.Counting.{Has}
 use Rattle.tree_passes.specs.Locks.{IsLockOf}
 use Rattle.tree_passes.specs.Looks.{Learns}
 use Rattle.tree_passes.specs.Passes.{after_publication}
+use Rattle.shared_tree.specs.declared.publisher.Batched.{Batched}
+use Rattle.shared_tree.specs.declared.publisher.Batched.TheVariants.{Below, These}
 use Rattle.shared_tree.specs.declared.publisher.Spot.{Spot}
+use Rattle.shared_tree.specs.Copying.{bodies_under}
 
 -- the word and its lock stand in a table of so many words
 pub record IsSpot (words : ℕ) (s : Spot) : Type 0 where
@@ -37,3 +40,8 @@ pub record HasFoundOther (v : View) (i key value : ℕ) (w : View) : Type 0 wher
   pub before : View
   pub learnt : HasLearnt v before
   pub learns : Learns before i key value w
+
+-- the bodies of a publication
+abbrev pub batch_bodies : Batched → List ℕ
+batch_bodies (These list) = list.now
+batch_bodies (Below part) = bodies_under part.now

@@ -10,7 +10,7 @@ ghost use Rattle.tree_passes.specs.Turns.{IsThere};
 ghost use Rattle.tree_rule.specs.declared.words.TheConstants.{CELLS_OF_ONE, MOST_CELLS, POOL_PLACE};
 ghost use Rattle.shared_tree.specs.Inserting.{IsAt, IsPutIn, LeadsTo};
 
-use crate::publisher::{Publisher, Spot};
+use crate::publisher::{Batched, Publisher, Spot, publish};
 use octant_code::{LEVELS, Point, Points, Steps, key_at, octant};
 use std::sync::ledger::Ledger;
 use tree_passes::{Cube, Pass, Words, load, part_two};
@@ -58,7 +58,17 @@ fn put_over<P: Publisher, L: Ledger>(
     let top = word_of_cell(spare[0]);
     let old = word_of_body(x);
     let cells = &spare[..used];
-    let found = publisher.publish(table, pass, spot, old, top, cells, &[n], steps);
+    let found = publish(
+        publisher,
+        table,
+        pass,
+        spot,
+        old,
+        top,
+        cells,
+        Batched::These(&[n]),
+        steps,
+    );
     if found == old {
         return Turn::Done(used);
     }
@@ -89,7 +99,17 @@ fn put_alone<P: Publisher, L: Ledger>(
     ensures turn { LeadsTo pass.old.me.0 pass.new.me.0 n spare.now (key_of (site_at points.now n) spot.level) result }
     ensures steps { steps.new ≤ steps.old + 2 }
 {
-    let found = publisher.publish(table, pass, spot, 0, word_of_body(n), &[], &[n], steps);
+    let found = publish(
+        publisher,
+        table,
+        pass,
+        spot,
+        0,
+        word_of_body(n),
+        &[],
+        Batched::These(&[n]),
+        steps,
+    );
     match named_by(found) {
         Named::Nothing => Turn::Done(0),
         Named::Body(x) => put_over(publisher, table, pass, spare, points, x, n, spot, steps),

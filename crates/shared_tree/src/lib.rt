@@ -12,7 +12,7 @@ mod yard;
 
 pub use descent::insert;
 pub use parts::{PassParts, TreeParts};
-pub use publisher::{Publisher, Spot};
+pub use publisher::{Batched, Publisher, Spot, publish};
 pub use search::find;
 pub use start::{Deal, deal_region, open};
 pub use yard::YardParts;

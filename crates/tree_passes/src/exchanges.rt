@@ -9,18 +9,18 @@ ghost use Rattle.tree_passes.specs.Plays.{IsReadyFor};
 use crate::plays::{Batch, Publish};
 use crate::rule::{Pass, Words};
 use octant_code::Steps;
-use std::marker::Brand;
 use std::sync::ledger::Ledger;
 
-// The batch is picked by the cells and the bodies.
-fn exchange_batch<B: Batch>(
+/// Puts `new` in the place of `old`, if a published word is still `old`, and publishes with it the
+/// cells and bodies of a batch. Counts a step. Returns what was there; other than `old` it is learnt.
+#[inline]
+pub fn exchange<B: Batch, L: Ledger>(
     table: &Words,
     pass: &mut Pass,
     word: usize,
     old: u64,
     new: u64,
-    cells: &[u32],
-    bodies: &[u32],
+    steps: &mut Steps<L>,
 ) -> u64
     requires free { table.now.key.writing ≡ ByExchange }
     requires place { pass.old.table_id ≡ table.now.table_id }
@@ -29,33 +29,8 @@ fn exchange_batch<B: Batch>(
     ensures pass { (pass.new.table_id ≡ pass.old.table_id) × (pass.new.me.1 ≡ pass.old.me.1) }
     ensures hit { result ≡ old → pass.new.me.0 ≡ after_publication pass.old.me.0 B.cells B.bodies }
     ensures miss { result ≢ old → (key : ℕ) → KnowsPlace pass.old.me.0 word key → Learns pass.old.me.0 word key result pass.new.me.0 }
-{
-    let _batch = (cells.len(), bodies.len());
-    table.compare_exchange::<Publish<B>>(pass, word, old, new)
-}
-
-/// Puts `new` in the place of `old`, if a published word is still `old`, and publishes with it these
-/// cells and bodies. Counts a step. Returns what was there; other than `old` it is learnt.
-#[inline]
-pub fn exchange<L: Ledger>(
-    table: &Words,
-    pass: &mut Pass,
-    word: usize,
-    old: u64,
-    new: u64,
-    cells: &[u32],
-    bodies: &[u32],
-    steps: &mut Steps<L>,
-) -> u64
-    requires free { table.now.key.writing ≡ ByExchange }
-    requires place { pass.old.table_id ≡ table.now.table_id }
-    requires word { word < table.now.table_id.words }
-    requires ready { (key : ℕ) × KnowsPlace pass.old.me.0 word key × IsReadyFor pass.old.me.0 key old new cells.now bodies.now }
-    ensures pass { (pass.new.table_id ≡ pass.old.table_id) × (pass.new.me.1 ≡ pass.old.me.1) }
-    ensures hit { result ≡ old → pass.new.me.0 ≡ after_publication pass.old.me.0 cells.now bodies.now }
-    ensures miss { result ≢ old → (key : ℕ) → KnowsPlace pass.old.me.0 word key → Learns pass.old.me.0 word key result pass.new.me.0 }
     ensures steps { steps.new ≡ steps.old + 1 }
 {
     steps.tick();
-    exchange_batch::<Brand>(table, pass, word, old, new, cells, bodies)
+    table.compare_exchange::<Publish<B>>(pass, word, old, new)
 }

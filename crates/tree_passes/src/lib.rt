@@ -19,5 +19,6 @@ pub use exchanges::exchange;
 pub use loads::load;
 pub use locks::{draw_cell, load_locked, store_locked, try_lock, unlock};
 pub use parts::{join_passes, split_pass};
+pub use plays::Batch;
 pub use rule::{Pass, TreeRule, Words, between_steps};
 pub use view::{KEY_PART, ROW_WORDS, Told, View, Writing};

@@ -10,7 +10,6 @@ ghost use Rattle.tree_passes.specs.Plays.{changed, IsDrawn, IsReadyFor, LookedUn
 
 use crate::plays::{Acquire, Batch, Draw, LookUnder, Put, Release};
 use crate::rule::{Pass, Words};
-use std::marker::Brand;
 use tree_rule::POOL_PLACE;
 
 /// Tries once to take the lock whose word stands at a place. A pass holds at most one.
@@ -57,16 +56,10 @@ pub fn load_locked(table: &Words, pass: &mut Pass, word: usize) -> u64
     table.load::<LookUnder>(pass, word)
 }
 
-// The batch is picked by the cells and the bodies.
-fn store_batch<B: Batch>(
-    table: &Words,
-    pass: &mut Pass,
-    word: usize,
-    old: u64,
-    new: u64,
-    cells: &[u32],
-    bodies: &[u32],
-)
+/// Stores a published word under its lock, which was loaded under it as `old`, and publishes with it
+/// the cells and bodies of a batch.
+#[inline]
+pub fn store_locked<B: Batch>(table: &Words, pass: &mut Pass, word: usize, old: u64, new: u64)
     requires locks { table.now.key.writing ≡ UnderLocks }
     requires place { pass.old.table_id ≡ table.now.table_id }
     requires word { word < table.now.table_id.words }
@@ -76,32 +69,8 @@ fn store_batch<B: Batch>(
     ensures pass { (pass.new.table_id ≡ pass.old.table_id) × (pass.new.me.1 ≡ pass.old.me.1) }
     ensures put { pass.new.me.0 ≡ record (after_publication pass.old.me.0 B.cells B.bodies) { under = changed pass.old.me.0.under word new } }
 {
-    let _batch = (old, cells.len(), bodies.len());
+    let _loaded = old;
     table.store::<Put<B>>(pass, word, new);
-}
-
-/// Stores a published word under its lock, which was loaded under it as `old`, and publishes with it
-/// these cells and bodies.
-#[inline]
-pub fn store_locked(
-    table: &Words,
-    pass: &mut Pass,
-    word: usize,
-    old: u64,
-    new: u64,
-    cells: &[u32],
-    bodies: &[u32],
-)
-    requires locks { table.now.key.writing ≡ UnderLocks }
-    requires place { pass.old.table_id ≡ table.now.table_id }
-    requires word { word < table.now.table_id.words }
-    requires ready { (key : ℕ) × KnowsPlace pass.old.me.0 word key × IsReadyFor pass.old.me.0 key old new cells.now bodies.now }
-    requires held { (lock : ℕ) × IsLockOf word lock × (1 ≤ times lock pass.old.me.0.locks) }
-    requires loaded { Has pass.old.me.0.under (word, old) }
-    ensures pass { (pass.new.table_id ≡ pass.old.table_id) × (pass.new.me.1 ≡ pass.old.me.1) }
-    ensures put { pass.new.me.0 ≡ record (after_publication pass.old.me.0 cells.now bodies.now) { under = changed pass.old.me.0.under word new } }
-{
-    store_batch::<Brand>(table, pass, word, old, new, cells, bodies);
 }
 
 /// Draws a cell from the shared pool, which counts against the pass's quota.

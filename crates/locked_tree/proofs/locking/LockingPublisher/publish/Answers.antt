@@ -69,13 +69,13 @@ store_locked-requires-clause-loaded g c =
 
 pub unlock-requires-2-clause-long : goal.unlock-requires-2-clause-long
 unlock-requires-2-clause-long g c =
-    (put_parts c.load_locked-found.new.pass.me.0 c.store_locked.new.pass.me.0 c.args.cells.now c.args.bodies.now _ c.store_locked.ensures.put).1
+    (put_parts c.load_locked-found.new.pass.me.0 c.store_locked.new.pass.me.0 g.B.Batch.cells g.B.Batch.bodies _ c.store_locked.ensures.put).1
     ∙ long_still c.args.pass.now.me.0 _ _ (c.args.spot.lock ∷ []) _ _ _ _ c.take_lock.ensures.taken
     (looked g (goal.at.unlock-requires-2-clause-long g c).After-load_locked-found) c.requires.long
 
 pub unlock-requires-2-clause-held : goal.unlock-requires-2-clause-held
 unlock-requires-2-clause-held g c =
-    (put_parts c.load_locked-found.new.pass.me.0 c.store_locked.new.pass.me.0 c.args.cells.now c.args.bodies.now _ c.store_locked.ensures.put).0
+    (put_parts c.load_locked-found.new.pass.me.0 c.store_locked.new.pass.me.0 g.B.Batch.cells g.B.Batch.bodies _ c.store_locked.ensures.put).0
     ∙ lock_still c.args.pass.now.me.0 _ _ c.args.spot.lock _ _ _ c.take_lock.ensures.taken
     (looked g (goal.at.unlock-requires-2-clause-held g c).After-load_locked-found)
 
@@ -86,5 +86,5 @@ pub returns-clause-hit : goal.returns-clause-hit
 returns-clause-hit g c = λ e.
     has_published c.args.pass.now.me.0 c.take_lock.new.pass.me.0 c.load_locked-found.new.pass.me.0 c.args.spot.lock c.args.spot.word c.requires.ready.0
     c.load_locked-found.result c.take_lock.ensures.taken c.requires.no_lock
-    (looked g (goal.at.returns-clause-hit g c).After-load_locked-found) c.store_locked.new.pass.me.0 c.unlock-2.new.pass.me.0 c.args.cells.now
-    c.args.bodies.now _ c.store_locked.ensures.put c.unlock-2.ensures.free
+    (looked g (goal.at.returns-clause-hit g c).After-load_locked-found) c.store_locked.new.pass.me.0 c.unlock-2.new.pass.me.0 g.B.Batch.cells
+    g.B.Batch.bodies _ c.store_locked.ensures.put c.unlock-2.ensures.free

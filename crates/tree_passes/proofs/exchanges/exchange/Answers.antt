@@ -1,7 +1,7 @@
 use Rattle.std.proofs.Common.{rules}
 use Rattle.tree_passes.specs.Opening.{opening_of}
 use Rattle.tree_passes.proofs.FreeSteps.{exchanges}
-use Rattle.tree_passes.proofs.exchanges.exchange_batch.Goals as goal
+use Rattle.tree_passes.proofs.exchanges.exchange.Goals as goal
 
 pub compare_exchange-requires : goal.compare_exchange-requires
 compare_exchange-requires g c = (

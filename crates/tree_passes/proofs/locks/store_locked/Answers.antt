@@ -1,7 +1,7 @@
 use Rattle.std.proofs.Common.{rules}
 use Rattle.tree_passes.specs.Opening.{opening_of}
 use Rattle.tree_passes.proofs.UnderLocks.{puts}
-use Rattle.tree_passes.proofs.locks.store_batch.Goals as goal
+use Rattle.tree_passes.proofs.locks.store_locked.Goals as goal
 
 pub store-requires : goal.store-requires
 store-requires g c =
