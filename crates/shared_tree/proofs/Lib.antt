@@ -6,4 +6,6 @@ mod Resting
 mod Rests
 mod Starts
 mod Whole
+mod PartTrees
+mod PartCopies
 pub mod Laws

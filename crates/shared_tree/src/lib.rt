@@ -8,6 +8,7 @@ mod parts;
 mod publisher;
 mod search;
 mod start;
+mod subtrees;
 mod yard;
 
 pub use descent::insert;
@@ -15,4 +16,5 @@ pub use parts::{PassParts, TreeParts};
 pub use publisher::{Batched, Publisher, Spot, publish};
 pub use search::find;
 pub use start::{Deal, deal_region, open};
+pub use subtrees::{Copied, copy_part};
 pub use yard::YardParts;
