@@ -1,10 +1,10 @@
 -- What becomes of the cells of a region, which stand in a list behind those that were spent.
 use Rattle.std.proofs.Common.{ℕ, ◌+◌, ◌-◌, ◌<◌, ◌≤◌, ◌≡◌, sym, ◌∙◌, ap, subst, inl, inr, arith, List, [], ◌∷◌, ◌++◌, drop, take, length, length-append}
 use Rattle.std.proofs.Common.{length-drop}
-use Rattle.std.proofs.lemmas.List.{drop-append-le, drop-drop, length-take-le, take-append-drop}
+use Rattle.std.proofs.lemmas.List.{drop-append-le, drop-drop, drop-take, length-take-le, take-append-drop}
 use Rattle.bh_model.specs.Bodies.{IsIn, NoneTwice}
-use Rattle.bh_model.proofs.Lists.{none_twice-append, once_back, once_front}
-use Rattle.cell_pool.specs.Free.{IsRegion}
+use Rattle.bh_model.proofs.Lists.{in_right, none_twice-append, once_apart, once_back, once_front}
+use Rattle.cell_pool.specs.Free.{IsRegion, between, ends_of}
 
 -- the last cell is taken
 pub taken : (items new : List ℕ) (x spent room : ℕ) → items ≡ new ++ x ∷ [] → spent ≤ length new → IsRegion record { cells = drop spent items; room = room }
@@ -63,3 +63,35 @@ spent_more items spent n room few h =
           (once_back (take n (drop spent items)) (drop n (drop spent items)) (subst NoneTwice (sym (take-append-drop n (drop spent items))) h.once));
       fits = omega (arith, h.fits, few, ap length rest, length-drop n (drop spent items));
     }
+
+-- a list is its first members, those between, and its last ones
+pub three_parts : (front back : ℕ) (l : List ℕ) → front + back ≤ length l → l ≡ take front l ++ (between front back l ++ drop (length l - back) l)
+three_parts front back l few =
+    sym (take-append-drop front l) ∙ ap (λ (z : List ℕ). take front l ++ z) (parted l front (length l - back) (omega (arith, few)) (omega arith))
+
+-- no number stands twice in its ends
+pub once_ends : (front back : ℕ) (l : List ℕ) → front + back ≤ length l → NoneTwice l → NoneTwice (ends_of front back l)
+once_ends front back l few once =
+    let a = take front l in
+    let b = between front back l in
+    let c = drop (length l - back) l in
+    let all : NoneTwice (a ++ (b ++ c)) = subst NoneTwice (three_parts front back l few) once in
+    none_twice-append a c (once_front a (b ++ c) all) (once_back b c (once_back a (b ++ c) all))
+    (λ n i j. once_apart a (b ++ c) all n i (in_right b c n j))
+
+-- which are so many
+pub length-ends : (front back : ℕ) (l : List ℕ) → front + back ≤ length l → length (ends_of front back l) ≡ front + back
+length-ends front back l few =
+    omega (arith, few, length-append (take front l) (drop (length l - back) l), length-take-le front l (omega (arith, few)), length-drop (length l - back) l)
+
+-- and those between them are the others
+pub length-between : (front back : ℕ) (l : List ℕ) → front + back ≤ length l → length (between front back l) ≡ length l - (front + back)
+length-between front back l few =
+    omega (arith, few, length-drop front (take (length l - back) l), length-take-le (length l - back) l (omega arith))
+
+-- the cells that are left where the list is cut
+pub cut_cells : (items : List ℕ) (spent n : ℕ) → spent + n ≤ length items
+    → drop spent (take (length items - n) items) ≡ take (length (drop spent items) - n) (drop spent items)
+cut_cells items spent n few =
+    let place : length items - n ≡ spent + (length (drop spent items) - n) = omega (arith, few, length-drop spent items) in
+    ap (λ (k : ℕ). drop spent (take k items)) place ∙ drop-take spent (length (drop spent items) - n) items

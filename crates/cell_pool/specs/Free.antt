@@ -1,5 +1,5 @@
 -- What contracts see of a region.
-use Rattle.std.specs.Prelude.{ℕ, ◌≡◌, ◌≤◌, ◌++◌, List, length}
+use Rattle.std.specs.Prelude.{ℕ, ◌≡◌, ◌+◌, ◌-◌, ◌≤◌, ◌++◌, List, drop, length, take}
 use Rattle.bh_model.specs.Bodies.{NoneTwice}
 
 -- free cells by their numbers, and how many there is room for
@@ -18,3 +18,18 @@ pub record Splits (before after : Free) (n : ℕ) (tail : Free) : Type 0 where
   pub count : length tail.cells ≡ n
   pub room : tail.room ≡ n
   pub room_stays : after.room ≡ before.room
+
+-- the first `front` members of a list, and after them the last `back`
+abbrev pub ends_of : ℕ → ℕ → List ℕ → List ℕ
+ends_of front back l = take front l ++ drop (length l - back) l
+
+-- and those between them
+abbrev pub between : ℕ → ℕ → List ℕ → List ℕ
+between front back l = drop front (take (length l - back) l)
+
+-- the first `front` cells, and after them the last `back`, stand in a region of their own, which has room for just these
+pub record SplitsEnds (before after : Free) (front back : ℕ) (ends : Free) : Type 0 where
+  pub parted : ends.cells ≡ ends_of front back before.cells
+  pub stays : after.cells ≡ between front back before.cells
+  pub room : ends.room ≡ front + back
+  pub room_stays : after.room ≡ before.room - front

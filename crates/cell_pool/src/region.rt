@@ -29,9 +29,9 @@ impl Model for Region {
 }
 
 impl Region {
-    ghost use Rattle.std.specs.Prelude.{◌≡◌, ◌==◌, ◌<◌, ◌≤◌, ◌-◌, [], ◌∷◌, ◌++◌, IfOk, OnErr, drop, length};
+    ghost use Rattle.std.specs.Prelude.{◌≡◌, ◌==◌, ◌<◌, ◌≤◌, ◌-◌, [], ◌∷◌, ◌++◌, ◌+◌, IfOk, OnErr, drop, length, take};
     ghost use Rattle.bh_model.specs.Bodies.{IsIn, NoneTwice};
-    ghost use Rattle.cell_pool.specs.Free.{IsRegion, Splits};
+    ghost use Rattle.cell_pool.specs.Free.{ends_of, IsRegion, Splits, SplitsEnds};
 
     /// The region of a list of distinct numbers, which it takes over. Its room is the list's length.
     pub fn of(list: Vec<u32>) -> Region
@@ -88,6 +88,42 @@ impl Region {
             }),
             Err(_) => Err(OutOfMemory),
         }
+    }
+
+    /// Parts off the first `front` cells, and after them the last `back`, into a region of their own, with
+    /// room for them. This one keeps the cells between them, and its room without that for the first ones.
+    pub fn split_ends(&mut self, front: usize, back: usize) -> Result<Region, OutOfMemory>
+        requires { front + back ≤ length self.old.cells }
+        ensures split { IfOk result (SplitsEnds self.old self.new front back) }
+        ensures refused { OnErr result (self.new ≡ self.old) }
+    {
+        let _rule = self.len();
+        let list = self.ends(front, back)?;
+        self.cut(back);
+        self.spend(front);
+        Ok(Region::of(list))
+    }
+
+    // A copy of the first `front` cells and the last `back`.
+    fn ends(&self, front: usize, back: usize) -> Result<Vec<u32>, OutOfMemory>
+        requires { front + back ≤ length self.now.cells }
+        ensures { IfOk result (λ v. v.items ≡ ends_of front back self.now.cells) }
+    {
+        let cells = self.rest();
+        let mut list = Vec::with_capacity(*self.list.allocator(), front + back)?;
+        list.extend_from_slice(&cells[..front])?;
+        list.extend_from_slice(&cells[cells.len() - back..])?;
+        Ok(list)
+    }
+
+    // Gives up the last `n` cells, and keeps the room for them.
+    fn cut(&mut self, n: usize)
+        requires { n ≤ length self.old.cells }
+        ensures cells { self.new.cells ≡ take (length self.old.cells - n) self.old.cells }
+        ensures room { self.new.room ≡ self.old.room }
+    {
+        let place = self.list.len() - n;
+        self.list.truncate(place);
     }
 
     /// The cells, to be used from the front.

@@ -12,7 +12,7 @@ use Rattle.tree_passes.specs.Counting.{times, without}
 use Rattle.tree_passes.specs.Making.{IsReady}
 use Rattle.shared_tree.specs.Ends.{Serves}
 use Rattle.shared_tree.specs.Seen.{IsAtRest, IsSplit, PartsOfPass, PassState, state_of}
-use Rattle.shared_tree.proofs.Laws.{region_enough, rest_given, rest_kept, serves_region}
+use Rattle.shared_tree.proofs.Laws.{part_few, region_enough, rest_given, rest_kept, serves_region, split_length, split_times}
 use Rattle.locked_tree.specs.declared.tree.Pool.{Pool}
 use Rattle.locked_tree.specs.declared.tree.Pool.TheVariants as pool
 use Rattle.locked_tree.specs.Pools.{AreDealtOut, HasDrawn, HasRoom, count_of, spare_of, stock_of}
@@ -63,10 +63,10 @@ no_cell [] e = refl
 no_cell (x ∷ xs) e = absurd (omega arith)
 
 -- where a part's cells go from the region, the drawn ones stay
-spare_parts : (from : Pool) (cells kept given stock : List ℕ) (part : ℕ) → cells ≡ kept ++ given → length given ≡ (stock_of from part).0
-    → spare_of from cells stock ≡ spare_of from kept stock ++ given
-spare_parts pool.Shared cells kept given stock part is count = sym (append-nil stock) ∙ ap (λ (z : List ℕ). stock ++ z) (no_cell given count)
-spare_parts pool.Regions cells kept given stock part is count = is
+spare_parts : (from : Pool) (cells kept given stock : List ℕ) (part : ℕ) → ((c : ℕ) → times c cells ≡ times c kept + times c given)
+    → length given ≡ (stock_of from part).0 → (c : ℕ) → times c (spare_of from cells stock) ≡ times c (spare_of from kept stock) + times c given
+spare_parts pool.Shared cells kept given stock part is count c = let n = ap (times c) (no_cell given count) in omega arith
+spare_parts pool.Regions cells kept given stock part is count c = is c
 
 -- and the part begins with its cells alone
 spare_given : (from : Pool) (given : List ℕ) (part : ℕ) → length given ≡ (stock_of from part).0 → given ≡ spare_of from given []
@@ -74,10 +74,10 @@ spare_given pool.Shared given part count = sym (no_cell given count)
 spare_given pool.Regions given part count = refl
 
 -- what is left is the stock for the rest
-left_enough : (from : Pool) (quota : ℕ) (cells kept given : List ℕ) (part : ℕ) → cells ≡ kept ++ given → length given ≡ (stock_of from part).0
+left_enough : (from : Pool) (quota : ℕ) (cells kept : List ℕ) (part : ℕ) → length kept + (stock_of from part).0 ≡ length cells
     → count_of from quota cells ≤ count_of from (quota - (stock_of from part).1) kept + CELLS_OF_ONE * part
-left_enough pool.Shared quota cells kept given part is count = omega arith
-left_enough pool.Regions quota cells kept given part is count = let l = ap length is in let m = length-append kept given in omega arith
+left_enough pool.Shared quota cells kept part is = omega arith
+left_enough pool.Regions quota cells kept part is = omega arith
 
 given_enough : (from : Pool) (given : List ℕ) (part : ℕ) → length given ≡ (stock_of from part).0
     → CELLS_OF_ONE * part ≤ count_of from (stock_of from part).1 given
@@ -87,20 +87,25 @@ given_enough pool.Regions given part count = omega arith
 module _ (from : Pool) (v w u : PartsOfPass) (part stock : List ℕ)
     (s : IsSplit v w u part (stock_of from (length part)).0 (stock_of from (length part)).1) (among : (x : ℕ) → times x part ≤ times x v.view.todo)
     (r : IsAtRest v.view v.table_id.words (spare_of from v.cells stock) (count_of from v.view.quota v.cells)) where
+  there : (stock_of from (length part)).0 ≤ length v.cells
+  there = (stock_there from v.view.quota v.cells (length v.view.todo) (length part) r.stocked (part_few v.view part among)).0
+
+  parts : (c : ℕ) → times c (spare_of from v.cells stock) ≡ times c (spare_of from w.cells stock) + times c u.cells
+  parts = spare_parts from v.cells w.cells u.cells stock (length part) (split_times v w u part _ _ s there) s.count
+
   -- a pass that was split is at rest
   pub split_kept : IsAtRest w.view w.table_id.words (spare_of from w.cells stock) (count_of from w.view.quota w.cells)
   split_kept = subst (λ (z : ℕ × ℕ). IsAtRest w.view z.0 (spare_of from w.cells stock) (count_of from z.1 w.cells))
       (λ i. (sym (ap (λ (t : TableId). t.words) s.old_table) i, sym (ap (λ (z : View). z.quota) s.kept) i))
-      (rest_kept v w u v.table_id.words (spare_of from v.cells stock) (spare_of from w.cells stock) part _ _ _ _ s
-      (spare_parts from v.cells w.cells u.cells stock (length part) s.parted s.count) among
-      (left_enough from v.view.quota v.cells w.cells u.cells (length part) s.parted s.count) r)
+      (rest_kept v w u v.table_id.words (spare_of from v.cells stock) (spare_of from w.cells stock) part _ _ _ _ s parts among
+      (left_enough from v.view.quota v.cells w.cells (length part) (split_length v w u part _ _ s there)) r)
 
   -- and the new one
   pub split_given : IsAtRest u.view u.table_id.words (spare_of from u.cells []) (count_of from u.view.quota u.cells)
   split_given = subst (λ (z : ℕ × List ℕ × ℕ). IsAtRest u.view z.0 z.1 (count_of from z.2 u.cells))
       (λ i. (sym (ap (λ (t : TableId). t.words) s.new_table) i, spare_given from u.cells (length part) s.count i, sym (ap (λ (z : View). z.quota) s.given) i))
-      (rest_given v w u v.table_id.words (spare_of from v.cells stock) (spare_of from w.cells stock) part _ _ _ _ s
-      (spare_parts from v.cells w.cells u.cells stock (length part) s.parted s.count) among (given_enough from u.cells (length part) s.count) r)
+      (rest_given v w u v.table_id.words (spare_of from v.cells stock) (spare_of from w.cells stock) part _ _ _ _ s parts among
+      (given_enough from u.cells (length part) s.count) r)
 
 -- what the cells that are dealt out are good for
 pub serves : (from : Pool) (o : Stored) (bodies : ℕ) (region : List ℕ) (cells first quota : ℕ) → IsStored o → HasRoom from o.held bodies

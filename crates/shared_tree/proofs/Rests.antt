@@ -1,11 +1,13 @@
 -- Passes that are split.
-use Rattle.std.proofs.Common.{◌≡◌, ℕ, ◌+◌, ◌*◌, ◌≤◌, List, [], ◌∷◌, ◌++◌, length, refl, sym, ap, subst, ◌∙◌, arith}
+use Rattle.std.proofs.Common.{◌≡◌, ℕ, ◌+◌, ◌*◌, ◌≤◌, ◌-◌, List, [], ◌∷◌, ◌++◌, drop, length, take, refl, sym, ap, subst, ◌∙◌, arith}
 use Rattle.tree_rule.specs.declared.words.TheConstants.{CELLS_OF_ONE}
 use Rattle.tree_passes.specs.declared.view.View.{View}
 use Rattle.tree_passes.specs.Counting.{times, without, without_all}
 use Rattle.tree_passes.specs.Passes.{given_part, kept_part}
 use Rattle.tree_passes.proofs.Laws.{length-without, same-eq, times-append, times-without, times-without_all}
-use Rattle.shared_tree.specs.Seen.{IsAtRest, IsCounted, IsSplit, PartsOfPass}
+use Rattle.cell_pool.specs.Free.{between, ends_of}
+use Rattle.cell_pool.proofs.Laws.{length-between, three_parts}
+use Rattle.shared_tree.specs.Seen.{IsAtRest, IsCounted, IsSplit, PartsOfPass, front_of}
 
 -- numbers that all stand in a list are no more than its
 pub length-without_all : (part l : List ℕ) → ((x : ℕ) → times x part ≤ times x l) → length (without_all part l) + length part ≡ length l
@@ -25,12 +27,36 @@ none_in_none x (y ∷ ys) e = absurd (omega arith)
 pub part_few : (v : View) (part : List ℕ) → ((x : ℕ) → times x part ≤ times x v.todo) → length part ≤ length v.todo
 part_few v part among = let n = length-without_all part v.todo among in omega arith
 
+-- each number of a list stands in its ends or between them
+pub times-ends : (front back : ℕ) (l : List ℕ) → front + back ≤ length l → (c : ℕ) → times c l ≡ times c (between front back l) + times c (ends_of front back l)
+times-ends front back l few c =
+    let a = take front l in
+    let b = between front back l in
+    let z = drop (length l - back) l in
+    let whole = ap (times c) (three_parts front back l few) in
+    omega (arith, whole, times-append c a (b ++ z), times-append c b z, times-append c a z)
+
+-- each cell of a region that was split went to one of both passes
+pub split_times : (v w u : PartsOfPass) (part : List ℕ) (cells quota : ℕ) → IsSplit v w u part cells quota → cells ≤ length v.cells
+    → (c : ℕ) → times c v.cells ≡ times c w.cells + times c u.cells
+split_times v w u part cells quota s few c =
+    let front = front_of (length part) cells in
+    let e = times-ends front (cells - front) v.cells (omega (arith, few)) c in
+    omega (arith, e, ap (times c) s.parted, ap (times c) s.stays)
+
+-- and so many stayed
+pub split_length : (v w u : PartsOfPass) (part : List ℕ) (cells quota : ℕ) → IsSplit v w u part cells quota → cells ≤ length v.cells
+    → length w.cells + cells ≡ length v.cells
+split_length v w u part cells quota s few =
+    let front = front_of (length part) cells in
+    let e = length-between front (cells - front) v.cells (omega (arith, few)) in
+    omega (arith, few, e, ap length s.stays)
+
 -- the pass that was split, from whose spare cells the given ones were taken
 pub rest_kept : (v w u : PartsOfPass) (words : ℕ) (spare left part : List ℕ) (cells quota count kept : ℕ) → IsSplit v w u part cells quota
-    → spare ≡ left ++ u.cells → ((x : ℕ) → times x part ≤ times x v.view.todo) → count ≤ kept + CELLS_OF_ONE * length part
+    → ((c : ℕ) → times c spare ≡ times c left + times c u.cells) → ((x : ℕ) → times x part ≤ times x v.view.todo) → count ≤ kept + CELLS_OF_ONE * length part
     → IsAtRest v.view words spare count → IsAtRest w.view words left kept
-rest_kept v w u words spare left part cells quota count kept s is among enough r =
-    let both : (c : ℕ) → times c spare ≡ times c left + times c u.cells = λ c. ap (times c) is ∙ times-append c left u.cells in
+rest_kept v w u words spare left part cells quota count kept s both among enough r =
     let n = length-without_all part v.view.todo among in
     subst (λ (z : View). IsAtRest z words left kept) (sym s.kept) (record {
       some = r.some;
@@ -54,10 +80,9 @@ rest_kept v w u words spare left part cells quota count kept s is among enough r
 
 -- and the new one
 pub rest_given : (v w u : PartsOfPass) (words : ℕ) (spare left part : List ℕ) (cells quota count given : ℕ) → IsSplit v w u part cells quota
-    → spare ≡ left ++ u.cells → ((x : ℕ) → times x part ≤ times x v.view.todo) → CELLS_OF_ONE * length part ≤ given
+    → ((c : ℕ) → times c spare ≡ times c left + times c u.cells) → ((x : ℕ) → times x part ≤ times x v.view.todo) → CELLS_OF_ONE * length part ≤ given
     → IsAtRest v.view words spare count → IsAtRest u.view words u.cells given
-rest_given v w u words spare left part cells quota count given s is among enough r =
-    let both : (c : ℕ) → times c spare ≡ times c left + times c u.cells = λ c. ap (times c) is ∙ times-append c left u.cells in
+rest_given v w u words spare left part cells quota count given s both among enough r =
     subst (λ (z : View). IsAtRest z words u.cells given) (sym s.given) (record {
       some = r.some;
       few = r.few;

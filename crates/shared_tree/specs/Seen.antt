@@ -6,12 +6,14 @@ use Rattle.octant_code.specs.Points.{ArePoints}
 use Rattle.octant_code.specs.declared.limits.TheConstants.{MOST_BODIES}
 use Rattle.tree_rule.specs.declared.words.TheConstants.{CELLS_OF_ONE, MOST_CELLS, POOL_PLACE}
 use Rattle.octree.specs.Stored.{word_count}
+use Rattle.cell_pool.specs.Free.{between, ends_of}
 use Rattle.tree_passes.specs.declared.view.View.{View}
 use Rattle.tree_passes.specs.declared.view.Writing.{Writing}
 use Rattle.tree_passes.specs.Counting.{times}
 use Rattle.tree_passes.specs.Making.{IsReady}
 use Rattle.tree_passes.specs.Opening.{Opening}
 use Rattle.tree_passes.specs.Passes.{given_part, kept_part}
+use Rattle.shared_tree.specs.declared.parts.TheConstants.{LOW_CELLS_OF_ONE}
 
 -- a shared tree: how its published words are written, which table its words stand in, and what it was opened with
 pub record SharedTree : Type 0 where
@@ -63,11 +65,16 @@ pub record PartsOfPass : Type 0 where
 abbrev pub seen_of : PartsOfPass → PassState
 seen_of p = state_of p.table_id p.view
 
--- A pass was split: the new one has these bodies, the last so many cells of the region, and this quota.
+-- how many cells are from a region's front, where a part of so many bodies gets so many cells
+abbrev pub front_of : ℕ → ℕ → ℕ
+front_of bodies cells = min cells (LOW_CELLS_OF_ONE * bodies)
+
+-- A pass was split: the new one has these bodies, so many cells of the region, of its front and of its end, and this quota.
 pub record IsSplit (before after new : PartsOfPass) (part : List ℕ) (cells quota : ℕ) : Type 0 where
   pub old_table : after.table_id ≡ before.table_id
   pub new_table : new.table_id ≡ before.table_id
-  pub parted : before.cells ≡ after.cells ++ new.cells
+  pub parted : new.cells ≡ ends_of (front_of (length part) cells) (cells - front_of (length part) cells) before.cells
+  pub stays : after.cells ≡ between (front_of (length part) cells) (cells - front_of (length part) cells) before.cells
   pub count : length new.cells ≡ cells
   pub kept : after.view ≡ kept_part new.cells part quota before.view
   pub given : new.view ≡ given_part new.cells part quota before.view

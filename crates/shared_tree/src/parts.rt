@@ -28,6 +28,11 @@ use std::sync::Arc;
 use std::sync::ledger::Ledger;
 use tree_passes::{Pass, Tree, draw_cell, join_passes, split_pass};
 
+/// How many cells for each body a part gets from the front of the region that is split; the others it
+/// gets from the end. Insertions use a region from its front, so the cells that all passes use first
+/// have the lowest numbers and stand together in the table, and most scenes need no more.
+const LOW_CELLS_OF_ONE: usize = 2;
+
 /// What a shared tree is made of: its table, its points, and the words to which closing copies those of
 /// the table. Contracts see it as a `SharedTree`.
 #[derive(Drop)]
@@ -140,8 +145,9 @@ impl TreeParts {
         find(&self.table.shared, &mut pass.seat, &self.points, p, steps)
     }
 
-    /// Splits bodies of the todo list off for a new pass, which gets the last so many cells of the region
-    /// and this quota.
+    /// Splits bodies of the todo list off for a new pass, which gets so many cells of the region and this
+    /// quota. The first cells, up to 2 for each body, are from the region's front, and the others from its
+    /// end.
     ///
     /// # Errors
     ///
@@ -162,7 +168,8 @@ impl TreeParts {
         ensures refused { OnErr result (pass.new ≡ pass.old) }
         ensures split { IfOk result (λ r. IsSplit pass.old pass.new r part.now cells quota) }
     {
-        let region = pass.region.split_off(cells)?;
+        let front = cells.min(LOW_CELLS_OF_ONE * part.len());
+        let region = pass.region.split_ends(front, cells - front)?;
         let seat = split_pass(
             &self.table.shared,
             &mut pass.seat,

@@ -1,9 +1,9 @@
-use Rattle.std.proofs.Common.{ℕ, ◌≤◌, ap, inl, inr, sym, subst, ◌∙◌, arith}
+use Rattle.std.proofs.Common.{ℕ, ◌-◌, ◌+◌, ◌≤◌, length, ap, inl, inr, sym, subst, ◌∙◌, arith}
 use Rattle.std.proofs.lemmas.Bool.{cases_lt}
 use Rattle.tree_passes.specs.Counting.{times}
-use Rattle.tree_passes.proofs.Laws.{times-append}
+use Rattle.cell_pool.proofs.Laws.{length-ends}
 use Rattle.shared_tree.specs.Seen.{PartsOfPass}
-use Rattle.shared_tree.proofs.Rests.{counted_given, counted_kept, none_in_none}
+use Rattle.shared_tree.proofs.Rests.{counted_given, counted_kept, none_in_none, times-ends}
 use Rattle.shared_tree.proofs.parts.TreeParts.split.Goals.{In_ok-region}
 use Rattle.shared_tree.proofs.parts.TreeParts.split.Goals as goal
 
@@ -15,13 +15,18 @@ pub split_pass-seat-requires-clause-cells : goal.split_pass-seat-requires-clause
 split_pass-seat-requires-clause-cells c = λ x.
     let e = ap (times x) c.rest.ensures in
     let p = c.in_ok-region.ensures.split in
-    let s = ap (times x) p.cells ∙ times-append x c.split_off.new.self.cells c.in_ok-region.region.cells in
+    let front = c.min-front.result in
+    let cells = c.pass.inside.region.cells in
+    let there : c.args.cells ≤ length cells = subst (λ (p : PartsOfPass). c.args.cells ≤ length p.cells) (sym c.pass.view_is) c.requires.cells in
+    let few : front + (c.args.cells - front) ≤ length cells = omega (arith, there, c.min-front.ensures) in
+    let s = times-ends front (c.args.cells - front) cells few x in
+    let g = ap (times x) p.parted in
     elim (cases_lt 0 c.args.cells) [
       | inl some ↦
           let h = subst (λ (p : PartsOfPass). times x p.cells ≤ times x p.view.held) (sym c.pass.view_is) (c.requires.held some x) in
-          omega (arith, h, s, e)
+          omega (arith, h, s, e, g)
       | inr none ↦
-          let z = none_in_none x c.in_ok-region.region.cells (let n = p.count in omega arith) in
+          let z = none_in_none x c.in_ok-region.region.cells (let n = ap length p.parted in let l = length-ends front (c.args.cells - front) cells few in omega arith) in
           omega (arith, z, e)
     ]
 
