@@ -1,5 +1,5 @@
 -- Passes that are split.
-use Rattle.std.proofs.Common.{◌≡◌, ℕ, ◌+◌, ◌*◌, ◌≤◌, ◌-◌, List, [], ◌∷◌, ◌++◌, drop, length, take, refl, sym, ap, subst, ◌∙◌, arith}
+use Rattle.std.proofs.Common.{◌≡◌, ℕ, ◌+◌, ◌*◌, ◌≤◌, ◌-◌, List, [], ◌∷◌, ◌++◌, drop, length, take, refl, sym, ap, subst, arith}
 use Rattle.tree_rule.specs.declared.words.TheConstants.{CELLS_OF_ONE}
 use Rattle.tree_passes.specs.declared.view.View.{View}
 use Rattle.tree_passes.specs.Counting.{times, without, without_all}
