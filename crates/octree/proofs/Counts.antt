@@ -1,9 +1,8 @@
 -- Counting the cells of a word, child by child.
-use Rattle.std.proofs.Common.{ℕ, ◌<◌, ◌≤◌, ◌≡◌, zero, suc, refl, sym, ◌∙◌, add-one, ap, arith, List, [], length, length-append}
+use Rattle.std.proofs.Common.{ℕ, ◌<◌, ◌≤◌, ◌≡◌, zero, suc, refl, sym, ◌∙◌, ap, arith, List, [], length}
 use Rattle.bh_model.proofs.Lists.{joined}
-use Rattle.bh_model.proofs.Folds.{count_none, count_one, counts, counts_all, counts_next, counts_start, lengths_upto}
+use Rattle.bh_model.proofs.Folds.{count_none, count_one, counts, counts_all, lengths_upto}
 use Rattle.bh_model.specs.Bodies.{NoneTwice}
-use Rattle.octant_code.proofs.Keys.{pow8-mono}
 use Rattle.bh_model.specs.Trees.{Empty, Tree, cell_count}
 use Rattle.tree_rule.specs.Sound.{HereAs}
 use Rattle.tree_rule.specs.Words.{at_of, cells_from, child_place, tree_from}

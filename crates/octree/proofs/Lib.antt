@@ -12,5 +12,9 @@ mod Rooms
 mod WholeWords
 mod EachOnce
 mod Builds
+mod Growing
+mod Copying
+mod Ways
+mod Assembling
 mod CanonicalTrees
 mod Subtrees

@@ -165,13 +165,13 @@ one_child o w c i j d e r p q x y =
     ]
 
 -- a word is read below one of a cell's children
-record IsBelowChild (at : ℕ → ℕ) (c v : ℕ) : Type 0 where
-  octant : ℕ
-  small : octant < 8
-  read : IsReached at (at (child_place c octant)) v
+pub record IsBelowChild (at : ℕ → ℕ) (c v : ℕ) : Type 0 where
+  pub octant : ℕ
+  pub small : octant < 8
+  pub read : IsReached at (at (child_place c octant)) v
 
 -- what is read below a cell is the cell or stands below a child
-under_word : (at : ℕ → ℕ) (c v : ℕ) → IsReached at (cell_word c) v → (v ≡ cell_word c) ⊎ IsBelowChild at c v
+pub under_word : (at : ℕ → ℕ) (c v : ℕ) → IsReached at (cell_word c) v → (v ≡ cell_word c) ⊎ IsBelowChild at c v
 under_word at c _ (Here v e) = inl e
 under_word at c _ (Below d k v s l e) =
     elim (under_word at c (cell_word d) s) [
@@ -180,14 +180,14 @@ under_word at c _ (Below d k v s l e) =
     ]
 
 -- and what is read below a child is read below the cell
-below_cell : (at : ℕ → ℕ) (c k v : ℕ) → k < 8 → IsReached at (at (child_place c k)) v → IsReached at (cell_word c) v
+pub below_cell : (at : ℕ → ℕ) (c k v : ℕ) → k < 8 → IsReached at (at (child_place c k)) v → IsReached at (cell_word c) v
 below_cell at c k _ l (Here v e) = Below c k v (Here (cell_word c) refl) l e
 below_cell at c k _ l (Below d j v s m e) = Below d j v (below_cell at c k (cell_word d) l s) m e
 
 -- ---- the bodies below a word
 
 -- nothing else is read below a word that names no cell
-word_under : (at : ℕ → ℕ) (w v : ℕ) → ((c : ℕ) → w ≡ cell_word c → ⊥) → IsReached at w v → v ≡ w
+pub word_under : (at : ℕ → ℕ) (w v : ℕ) → ((c : ℕ) → w ≡ cell_word c → ⊥) → IsReached at w v → v ≡ w
 word_under at w _ off (Here v e) = e
 word_under at w _ off (Below c k v s l e) = absurd (off c (sym (word_under at w (cell_word c) off s)))
 

@@ -5,3 +5,5 @@ pub mod Spot
 pub mod Subtree
 pub mod Ranks
 pub mod Free
+pub mod ByKeys
+pub mod Growing

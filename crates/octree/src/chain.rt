@@ -33,8 +33,8 @@ pub fn cells_of_words(count: usize) -> u32
 
 /// Appends the words of one more cell, which has a key and names nothing. It takes no memory.
 #[inline]
-fn add_cell(words: &mut Vec<u64>, cell: u32, key: u64)
-    requires few { cell < MOST_CELLS }
+pub fn add_cell(words: &mut Vec<u64>, cell: u32, key: u64)
+    requires few { cell ≤ MOST_CELLS }
     requires len { length words.old.items ≡ word_count cell }
     requires room { word_count (cell + 1) ≤ vec_capacity words.old }
     requires unlocked { AreUnlocked words.old.items cell }

@@ -2,6 +2,7 @@
 //! order and the text of a tree.
 #![tactic(auto)]
 
+mod assemble;
 mod chain;
 mod descend;
 mod extent;

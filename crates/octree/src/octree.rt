@@ -1,5 +1,6 @@
 //! The octree of bodies.
 
+use crate::assemble::{copy_parts, make_places};
 use crate::chain::{Cube, cells_of_words, part_two, words_of_cells};
 use crate::descend::find_place;
 use crate::extent::{Extent, extent_of};
@@ -59,6 +60,7 @@ impl Octree {
     ghost use Rattle.bh_outside.specs.Text.{Puts};
     ghost use Rattle.tree_rule.specs.Words.{at_of, child_place, HasBody};
     ghost use Rattle.tree_rule.specs.Standing.{WordsNameExactly};
+    ghost use Rattle.octree.specs.ByKeys.{AreParts, IsAssembled};
     ghost use Rattle.octree.specs.Free.{AreFreeCells};
     ghost use Rattle.octree.specs.Node.{IsNodeOf};
     ghost use Rattle.octree.specs.Stored.{AreOctreeWords, IsBlankFrom, IsCanonical, IsInserted, IsOctreeOf, IsRoomier, IsStored, all_used, all_words, cells_of, full_tree, root_word, spare_of, tree_of, tree_with_used, word_count};
@@ -312,6 +314,32 @@ impl Octree {
         ensures { WordsNameExactly points.now self.now.words 0 self.now.base (cells_of self.now) [] (order (tree_of self.now)) }
     {
         let _read = (self.held, points.len());
+    }
+
+    /// The octree of the whole cube with all bodies of some octrees, which have bodies, and whose cubes
+    /// stand in tree order, none in another. Its cells stand by the parts' base keys: those above them
+    /// come first, and then those of each part in turn. Each cell of the parts is read once.
+    pub fn assembled(
+        alloc: Global,
+        points: &Points,
+        parts: &[Octree],
+    ) -> Result<Octree, OutOfMemory>
+        requires parts { AreParts points.now parts.now }
+        ensures { IfOk result (IsAssembled points.now parts.now) }
+    {
+        let _rule = points.len();
+        let mut words = Vec::with_capacity(alloc, words_of_cells(0))?;
+        words.resize(words_of_cells(0), 0)?;
+        let places = make_places(alloc, &mut words, points, parts)?;
+        copy_parts(&mut words, &places, points, parts)?;
+        let count = cells_of_words(words.len());
+        Ok(Octree {
+            words,
+            base: 1,
+            level: 0,
+            used: count,
+            held: count,
+        })
     }
 
     /// The canonical octree of all points of a list, each body by its point's number, made by

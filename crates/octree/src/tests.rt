@@ -34,3 +34,17 @@ fn the_cells_of_the_tree_are_not_free(rt: HostRuntime) -> Result<(), Fail> {
     assert_eq!(rt; again.free_cells(alloc)?, free);
     Ok(())
 }
+
+#[test]
+fn no_octrees_put_together_are_the_empty_octree(rt: HostRuntime) -> Result<(), Fail> {
+    let alloc = rt.alloc();
+    let list: Vec<Point> = Vec::new(alloc);
+    let Distinct::Yes = Points::test(alloc, &list)? else {
+        return Err(Fail::from("two equal points"));
+    };
+    let points = Points::of(list);
+    let parts: Vec<Octree> = Vec::new(alloc);
+    let tree = Octree::assembled(alloc, &points, &parts)?;
+    assert_eq!(rt; (tree.base(), tree.held(), tree.depth()), (1, 0, 0));
+    Ok(())
+}

@@ -175,3 +175,27 @@ cell_stands site at c key P M h = record {
   names_body = λ k n x. names_a_body site at c key P M h k n (which_part site at c key P M h k (body_word n) x);
   shared = shares site at c key P M h;
 }
+
+-- a word of a cell whose children are empty that names a cell names this one
+lone_cell : (at : ℕ → ℕ) (c key d key' : ℕ) → ((k : ℕ) → k < 8 → at (child_place c k) ≡ 0) → at (key_place c) ≡ key
+    → IsWordOf at (cell_word c) key (Only c) key' (cell_word d) → (d ≡ c) × (at (key_place d) ≡ key')
+lone_cell at c key d key' blank keyed (Top k e) = let same : d ≡ c = omega arith in (same, ap (λ y. at (key_place y)) same ∙ keyed ∙ sym k)
+lone_cell at c key d key' blank keyed (Child b j p l k e) = absurd (omega (arith, ap (λ y. at (child_place y j)) p, blank j l))
+
+-- and none names a body
+lone_body : (at : ℕ → ℕ) (c key n key' : ℕ) → ((k : ℕ) → k < 8 → at (child_place c k) ≡ 0)
+    → IsWordOf at (cell_word c) key (Only c) key' (body_word n) → ⊥
+lone_body at c key n key' blank (Top k e) = omega arith
+lone_body at c key n key' blank (Child b j p l k e) = omega (arith, ap (λ y. at (child_place y j)) p, blank j l)
+
+-- a cell with empty children stands for no body, amid witnesses that share its cube
+pub lone_stands : (site : ℕ → Site) (at : ℕ → ℕ) (c key : ℕ) (V : ℕ → Type 0) → ((k : ℕ) → k < 8 → at (child_place c k) ≡ 0) → at (key_place c) ≡ key
+    → IsShared site V key → StandsAmid site at (cell_word c) key (Only c) Nothing V
+lone_stands site at c key V blank keyed share = record {
+  keys_differ = λ d e p q s. p ∙ sym q;
+  cell_named = λ d p. Top (ap (λ y. at (key_place y)) p ∙ keyed) (ap cell_word p);
+  names_cell = λ key' d x. lone_cell at c key d key' blank keyed x;
+  body_named = λ n b. absurd b;
+  names_body = λ key' n x. absurd (lone_body at c key n key' blank x);
+  shared = λ d p. subst (λ (y : ℕ). IsShared site V y) (sym (ap (λ y. at (key_place y)) p ∙ keyed)) share;
+}

@@ -19,7 +19,7 @@ pub record HasKey (at : ℕ → ℕ) (top base : ℕ) (IsCell : ℕ → Type 0) 
   pub named : IsWordOf at top base IsCell key w
 
 -- each word that is read is that of a key
-pub key_of_reached : (site : ℕ → Site) (at : ℕ → ℕ) (top base : ℕ) (P B : ℕ → Type 0) → StandsFor site at top base P B
+pub key_of_reached : {V : ℕ → Type 0} (site : ℕ → Site) (at : ℕ → ℕ) (top base : ℕ) (P B : ℕ → Type 0) → StandsAmid site at top base P B V
     → (w : ℕ) → IsReached at top w → HasKey at top base P w
 key_of_reached site at top base P B h _ (Here w e) = record { key = base; named = Top refl e }
 key_of_reached site at top base P B h _ (Below c k w r l e) =
@@ -48,18 +48,18 @@ cell_is_reached site at top base P B V h c p =
     (subst (λ (y : ℕ). IsWordOf at top base P y (cell_word c)) f.one_under (h.cell_named c p))
 
 -- the cells of the set are those that are read
-pub cell_reached : (site : ℕ → Site) (at : ℕ → ℕ) (top base : ℕ) (P B : ℕ → Type 0) → StandsFor site at top base P B → (c : ℕ)
+pub cell_reached : {V : ℕ → Type 0} (site : ℕ → Site) (at : ℕ → ℕ) (top base : ℕ) (P B : ℕ → Type 0) → StandsAmid site at top base P B V → (c : ℕ)
     → P c ↔ IsReached at top (cell_word c)
 cell_reached site at top base P B h c = (
-  cell_is_reached site at top base P B B h c,
+  cell_is_reached site at top base P B _ h c,
   λ r. let f = key_of_reached site at top base P B h (cell_word c) r in (h.names_cell f.key c f.named).0,
 )
 
 -- the bodies of the set are those that are read
-pub body_reached : (site : ℕ → Site) (at : ℕ → ℕ) (top base : ℕ) (P B : ℕ → Type 0) → StandsFor site at top base P B → (n : ℕ)
+pub body_reached : {V : ℕ → Type 0} (site : ℕ → Site) (at : ℕ → ℕ) (top base : ℕ) (P B : ℕ → Type 0) → StandsAmid site at top base P B V → (n : ℕ)
     → B n ↔ IsReached at top (body_word n)
 body_reached site at top base P B h n = (
-  λ b. let f = h.body_named n b in reached_of_word site at top base P B B h (site n) f.level (body_word n) f.named,
+  λ b. let f = h.body_named n b in reached_of_word site at top base P B _ h (site n) f.level (body_word n) f.named,
   λ r. let f = key_of_reached site at top base P B h (body_word n) r in (h.names_body f.key n f.named).0,
 )
 
