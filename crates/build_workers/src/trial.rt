@@ -13,10 +13,24 @@ use std::test::Fail;
 ///
 /// For want of memory, or where two points are one.
 pub fn scattered(alloc: Global, count: u32) -> Result<Arc<Points>, Fail> {
+    points_of(alloc, count, false)
+}
+
+/// So many points, all in a corner of the cube.
+///
+/// # Errors
+///
+/// For want of memory, or where two points are one.
+pub fn cornered(alloc: Global, count: u32) -> Result<Arc<Points>, Fail> {
+    points_of(alloc, count, true)
+}
+
+/// So many points, of which those of odd numbers, or all, are in a corner.
+fn points_of(alloc: Global, count: u32, all: bool) -> Result<Arc<Points>, Fail> {
     let mut list = Vec::new(alloc);
     for n in 0..count {
         let code = (u64::from(n) + 1).wrapping_mul(0x9E37_79B9_7F4A_7C15);
-        let near = n % 2 * 9;
+        let near: u32 = if all || n % 2 == 1 { 9 } else { 0 };
         let x = (code >> 43) as u32 >> near;
         let y = ((code >> 22) % 2_097_152) as u32 >> near;
         let z = (code % 2_097_152) as u32 >> near;

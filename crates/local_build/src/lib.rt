@@ -4,6 +4,8 @@
 
 mod builder;
 #[cfg(test)]
+mod steps;
+#[cfg(test)]
 mod tests;
 mod uncounted;
 
