@@ -1,15 +1,21 @@
 //! A shared octree without locks, and the passes over it.
 
-ghost use Rattle.std.specs.Prelude.{◌≡◌, ◌≢◌, ℕ, [], ◌∷◌, ◌+◌, ◌<◌, ◌≤◌, ◌++◌, IfNone, IfOk, IfSome, OnErr, OnOk};
+ghost use Rattle.std.specs.Prelude.{◌≡◌, ◌≢◌, ℕ, [], ◌∷◌, ◌+◌, ◌*◌, ◌<◌, ◌≤◌, ◌++◌, length, IfNone, IfOk, IfSome, OnErr, OnOk};
 ghost use Rattle.octant_code.specs.Points.{site_at};
 ghost use Rattle.octant_code.specs.Space.{IsUnder};
-ghost use Rattle.tree_rule.specs.Words.{body_word};
+ghost use Rattle.bh_model.specs.Blocks.{blocks};
+ghost use Rattle.bh_model.specs.Trees.{cell_count, order};
+ghost use Rattle.octree.specs.Stored.{tree_of, IsCanonical};
+ghost use Rattle.tree_rule.specs.Words.{body_word, HasBody};
 ghost use Rattle.tree_passes.specs.Counting.{times, without, without_all};
+ghost use Rattle.tree_passes.specs.Opening.{all_bodies};
 ghost use Rattle.shared_tree.specs.Finding.{NamesNoneAt};
+ghost use Rattle.shared_tree.specs.Merging.{others_among, HasAllBodies};
 ghost use Rattle.shared_tree.specs.Seen.{IsOf, PassState, SharedTree};
 
 use crate::exchanger::Exchanger;
 use octant_code::{OutOfMemory, Point, Steps};
+use octree::Octree;
 use shared_tree::{PassParts, TreeParts};
 use std::marker::Model;
 use std::sync::ledger::Ledger;
@@ -53,6 +59,15 @@ impl Model for FreePass {
     ghost invariant = { λ p. IsAtRest p.parts.view p.parts.table_id.words p.parts.cells (length p.parts.cells) };
 }
 
+impl FreePass {
+    /// Each body that it is to put in has a point.
+    pub fn todo_in_points(&self)
+        ensures { (x : ℕ) → 1 ≤ times x self.now.todo → x < length self.now.points }
+    {
+        self.parts.few_bodies();
+    }
+}
+
 impl FreeTree {
     /// Puts a body of the pass's todo list into the tree, by at most 66 steps. It waits for nobody, and
     /// takes no memory.
@@ -88,6 +103,28 @@ impl FreeTree {
         ensures steps { steps.new ≤ steps.old + 22 }
     {
         self.parts.find(&mut pass.parts, p, steps)
+    }
+
+    /// Merges a private octree of bodies of the pass's todo list into the tree, by at most three steps for
+    /// each of its cells and 66 for each of its bodies. It waits for nobody, and takes no memory.
+    ///
+    /// It publishes at most as often as the octree's bodies have blocks against the other bodies of the
+    /// opening, and once where the start is empty and all bodies are still to be put in by this pass.
+    pub fn merge<L: Ledger>(&self, pass: &mut FreePass, part: &Octree, steps: &mut Steps<L>)
+        requires tree { IsOf pass.old self.now }
+        requires base { part.now.base ≡ 1 }
+        requires canonical { IsCanonical self.now.opening.sites part.now }
+        requires todo { (x : ℕ) → HasBody part.now.words x → 1 ≤ times x pass.old.todo }
+        ensures pass { pass.new ≡ record pass.old { todo = pass.new.todo; done = pass.new.done; changes = pass.new.changes; loads = pass.new.loads; last = pass.new.last } }
+        ensures todo { (x : ℕ) → times x pass.new.todo + times x (order (tree_of part.now)) ≡ times x pass.old.todo }
+        ensures done { (x : ℕ) → times x pass.new.done ≡ times x (order (tree_of part.now)) + times x pass.old.done }
+        ensures most { pass.new.changes ≤ pass.old.changes + blocks (site_at self.now.opening.sites) (order (tree_of part.now)) (others_among (all_bodies self.now.opening) (order (tree_of part.now))) }
+        ensures some { 1 ≤ length (order (tree_of part.now)) → pass.old.changes + 1 ≤ pass.new.changes }
+        ensures once { HasAllBodies pass.old self.now.opening → 1 ≤ length (order (tree_of part.now)) → pass.new.changes ≡ pass.old.changes + 1 }
+        ensures steps { steps.new ≤ steps.old + 3 * (cell_count (tree_of part.now) + 22 * length (order (tree_of part.now))) }
+        ensures few_steps { HasAllBodies pass.old self.now.opening → steps.new ≤ steps.old + 3 }
+    {
+        self.parts.merge(&Exchanger, &mut pass.parts, part, steps);
     }
 
     /// Splits bodies of the todo list off for a new pass, which has seen what the old one has seen or

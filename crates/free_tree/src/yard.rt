@@ -6,6 +6,7 @@ ghost use Rattle.bh_model.specs.Bodies.{IsIn, NoneTwice};
 ghost use Rattle.tree_rule.specs.Words.{at_of, HasBody};
 ghost use Rattle.octree.specs.Stored.{IsCanonical};
 ghost use Rattle.tree_passes.specs.Counting.{times};
+ghost use Rattle.tree_passes.specs.Opening.{all_bodies};
 ghost use Rattle.shared_tree.specs.Ends.{IsTreeAtEnd};
 ghost use Rattle.shared_tree.specs.Seen.{entrusted, risen, IsOf};
 
@@ -84,7 +85,7 @@ impl FreeYard {
         ensures points { IfOk result (λ r. r.0.opening.sites ≡ arc_value points.now) }
         ensures words { IfOk result (λ r. (i : ℕ) → at_of r.0.opening.words i ≡ at_of start.words i) }
         ensures todo { IfOk result (λ r. r.0.opening.todo ≡ todo.now) }
-        ensures pass { IfOk result (λ r. r.1 ≡ record { table_id = r.0.table_id; points = arc_value points.now; todo = todo.now; done = []; seen = []; changes = 0; loads = 0; last = (0, 0) }) }
+        ensures pass { IfOk result (λ r. r.1 ≡ record { table_id = r.0.table_id; points = arc_value points.now; bodies = all_bodies r.0.opening; todo = todo.now; done = []; seen = []; changes = 0; loads = 0; last = (0, 0) }) }
     {
         let _rule = points.len();
         let deal = deal_region(alloc, &start, todo.len())?;

@@ -9,6 +9,7 @@ ghost use Rattle.tree_rule.specs.Words.{at_of, HasBody};
 ghost use Rattle.tree_rule.specs.declared.words.TheConstants.{CELLS_OF_ONE, MOST_CELLS};
 ghost use Rattle.octree.specs.Stored.{IsCanonical, tree_of};
 ghost use Rattle.tree_passes.specs.Counting.{times};
+ghost use Rattle.tree_passes.specs.Opening.{all_bodies};
 ghost use Rattle.shared_tree.specs.Ends.{IsTreeAtEnd};
 ghost use Rattle.shared_tree.specs.Seen.{entrusted, risen, IsOf};
 ghost use Rattle.locked_tree.specs.Pools.{AreDealtOut, HasRoom};
@@ -115,7 +116,7 @@ impl LockedYard {
         ensures points { IfOk result (λ r. r.0.opening.sites ≡ arc_value points.now) }
         ensures words { IfOk result (λ r. (i : ℕ) → at_of r.0.opening.words i ≡ at_of start.words i) }
         ensures todo { IfOk result (λ r. r.0.opening.todo ≡ todo.now) }
-        ensures pass { IfOk result (λ r. r.1 ≡ record { table_id = r.0.table_id; points = arc_value points.now; todo = todo.now; done = []; seen = []; changes = 0; loads = 0; last = (0, 0) }) }
+        ensures pass { IfOk result (λ r. r.1 ≡ record { table_id = r.0.table_id; points = arc_value points.now; bodies = all_bodies r.0.opening; todo = todo.now; done = []; seen = []; changes = 0; loads = 0; last = (0, 0) }) }
     {
         let _rule = (points.len(), start.used());
         let deal = deal_out(alloc, pool, &start, todo.len())?;

@@ -8,4 +8,11 @@ mod Starts
 mod Whole
 mod PartTrees
 mod PartCopies
+mod PartPuts
+mod MergeBlocks
+mod MergeParts
+mod Merges
+mod MergeRoots
+mod MergeRests
+mod MergeRivals
 pub mod Laws

@@ -105,11 +105,11 @@ the_body : Option ℕ → ℕ
 the_body None = 0
 the_body (Some x) = suc x
 
-none_some : (x : ℕ) → None ≡ Some x → ⊥
+pub none_some : (x : ℕ) → None ≡ Some x → ⊥
 unfolding the_body
 none_some x e = let a = ap the_body e in omega arith
 
-some_same : (x y : ℕ) → Some x ≡ Some y → x ≡ y
+pub some_same : (x y : ℕ) → Some x ≡ Some y → x ≡ y
 unfolding the_body
 some_same x y e = let a = ap the_body e in omega arith
 

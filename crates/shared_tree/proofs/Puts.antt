@@ -36,7 +36,7 @@ word_small v key value t rule few = small (word_is value)
     small (ACell c e) = let q = (t.cell c e).inside in omega arith
 
 -- a pass that has learnt has what it had
-still_has : (v w : View) → HasLearnt v w → IsStill v w
+pub still_has : (v w : View) → HasLearnt v w → IsStill v w
 still_has v w h = subst (IsStill v) (sym h.view) (record {
   points = refl;
   opening = refl;
@@ -126,6 +126,7 @@ word_at v u words sites n s key value h t at =
 pub put_with : (v w : View) (n : ℕ) (cells : List ℕ) → length cells ≤ CELLS_OF_ONE → IsInserted v w n cells → IsPutIn v w n cells
 put_with v w n cells few i = record {
   points = i.points;
+  opening = i.opening;
   long = i.long;
   held = i.held;
   taken = few;
@@ -150,6 +151,7 @@ leads_still u v w n spare key (turn.Done used) s p = (p.0, put_still p.1)
     put_still : IsPutIn v w n (take used spare) → IsPutIn u w n (take used spare)
     put_still i = record {
       points = i.points ∙ s.points;
+      opening = i.opening ∙ s.opening;
       long = i.long ∙ s.long;
       held = λ c. i.held c ∙ ap (times c) s.held;
       taken = i.taken;

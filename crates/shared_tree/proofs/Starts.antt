@@ -16,11 +16,11 @@ use Rattle.octree.specs.Stored.{AreOctreeWords, IsBlankFrom, IsCanonical, IsStor
 use Rattle.tree_rule.proofs.Laws.{few_below, gives_own_order, order_has_none_twice, order_members, stands_of_sound}
 use Rattle.octree.proofs.Laws.{rising_once}
 use Rattle.tree_passes.specs.Counting.{numbers_from}
-use Rattle.tree_passes.specs.Opening.{fresh_view}
+use Rattle.tree_passes.specs.Opening.{fresh_view, start_bodies}
 use Rattle.tree_passes.specs.Ends.{CanOpen, CanPool}
 use Rattle.tree_passes.proofs.Laws.{once_times, times_in}
 use Rattle.shared_tree.specs.Ends.{AreHandedOut, AreStartWords, Serves}
-use Rattle.shared_tree.specs.Seen.{IsAtRest}
+use Rattle.shared_tree.specs.Seen.{IsAtRest, IsInside}
 
 numbers_next : (from n : ℕ) → numbers_from from n ++ (from + n) ∷ [] ≡ numbers_from from (suc n)
 numbers_next from zero = let e : from + 0 ≡ from = omega arith in ap (λ (z : ℕ). z ∷ []) e
@@ -183,6 +183,18 @@ can_open sites o words todo region cells first quota points base canon h once wi
   held_fresh = λ c p r. s.bare c p (start_cell o words cells c h r);
   held_inside = λ c p. let g = s.given c p in let l = h.long in let t = s.sum in omega arith;
 }
+
+-- each body of what it is opened with has a point
+pub opened_inside : (sites : List Site) (words todo held : List ℕ) → CanOpen sites words todo held
+    → IsInside (record { sites = sites; words = words; todo = todo })
+opened_inside sites words todo held h x i =
+    let site : ℕ → Site = site_at sites in
+    let at : ℕ → ℕ = at_of words in
+    let stands : StandsFor site at (at 0) 1 (HasCell words) (HasBody words) = stands_of_sound site at (at 0) 1 (omega arith) h.octree.sound h.under in
+    elim (in_append (start_bodies (record { sites = sites; words = words; todo = todo })) todo x i) [
+      | inl p ↦ h.start_in x ((order_members site at (at 0) 1 (HasCell words) (HasBody words) stands x).1 p)
+      | inr p ↦ h.todo_in x p
+    ]
 
 -- and with the pool word
 pub can_pool : (o : Stored) (words region : List ℕ) (cells first quota : ℕ) → AreStartWords o words cells

@@ -17,6 +17,7 @@ use Rattle.shared_tree.specs.Publishing.{IsSpot}
 -- Body n has gone from todo to done by one publication, with these cells. The other lists, the quota and the locks stay.
 pub record IsPutIn (v w : View) (n : ℕ) (cells : List ℕ) : Type 0 where
   pub points : w.points ≡ v.points
+  pub opening : w.bodies ≡ v.bodies
   pub long : length w.memory ≡ length v.memory
   pub held : (c : ℕ) → times c w.held + times c cells ≡ times c v.held
   pub taken : length cells ≤ CELLS_OF_ONE

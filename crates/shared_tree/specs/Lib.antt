@@ -4,3 +4,4 @@ pub mod Finding
 pub mod Publishing
 pub mod Inserting
 pub mod Copying
+pub mod Merging

@@ -5,13 +5,14 @@ use Rattle.octant_code.specs.Space.{Site}
 use Rattle.octant_code.specs.Points.{ArePoints}
 use Rattle.octant_code.specs.declared.limits.TheConstants.{MOST_BODIES}
 use Rattle.tree_rule.specs.declared.words.TheConstants.{CELLS_OF_ONE, MOST_CELLS, POOL_PLACE}
+use Rattle.bh_model.specs.Bodies.{IsIn}
 use Rattle.octree.specs.Stored.{word_count}
 use Rattle.cell_pool.specs.Free.{between, ends_of}
 use Rattle.tree_passes.specs.declared.view.View.{View}
 use Rattle.tree_passes.specs.declared.view.Writing.{Writing}
 use Rattle.tree_passes.specs.Counting.{times}
 use Rattle.tree_passes.specs.Making.{IsReady}
-use Rattle.tree_passes.specs.Opening.{Opening}
+use Rattle.tree_passes.specs.Opening.{Opening, all_bodies}
 use Rattle.tree_passes.specs.Passes.{given_part, kept_part}
 use Rattle.shared_tree.specs.declared.parts.TheConstants.{LOW_CELLS_OF_ONE}
 
@@ -21,11 +22,16 @@ pub record SharedTree : Type 0 where
   pub table_id : TableId
   pub opening : Opening
 
--- a pass: which table it is of, the points of its tree, its lists, how often it published and loaded, and the key and the value of the published
--- word that it loaded last
+-- each body of an opening has a point
+abbrev pub IsInside : Opening → Type 0
+IsInside o = (x : ℕ) → IsIn (all_bodies o) x → x < length o.sites
+
+-- a pass: which table it is of, the points of its tree, the opening's bodies, its lists, how often it published and loaded, and the key and the value of
+-- the published word that it loaded last
 pub record PassState : Type 0 where
   pub table_id : TableId
   pub points : List Site
+  pub bodies : List ℕ
   pub todo : List ℕ
   pub done : List ℕ
   pub seen : List ℕ
@@ -41,12 +47,14 @@ entrusted p = p.todo ++ p.done
 pub record IsOf (p : PassState) (t : SharedTree) : Type 0 where
   pub table : p.table_id ≡ t.table_id
   pub points : p.points ≡ t.opening.sites
+  pub bodies : p.bodies ≡ all_bodies t.opening
 
 -- what is seen of a pass with a view
 abbrev pub state_of : TableId → View → PassState
 state_of table v = record {
   table_id = table;
   points = v.points;
+  bodies = v.bodies;
   todo = v.todo;
   done = v.done;
   seen = v.seen;

@@ -4,6 +4,7 @@
 
 mod copy;
 mod descent;
+mod merge;
 mod parts;
 mod publisher;
 mod search;
@@ -12,6 +13,7 @@ mod subtrees;
 mod yard;
 
 pub use descent::insert;
+pub use merge::{Merged, merge_part};
 pub use parts::{PassParts, TreeParts};
 pub use publisher::{Batched, Publisher, Spot, publish};
 pub use search::find;

@@ -1,28 +1,33 @@
 //! The parts of shared trees and of their passes.
 
-ghost use Rattle.std.specs.Prelude.{◌≡◌, ◌≢◌, ℕ, [], ◌∷◌, ◌+◌, ◌-◌, ◌<◌, ◌≤◌, ◌++◌, List, drop, length, IfNone, IfOk, IfSome, OnErr};
+ghost use Rattle.std.specs.Prelude.{◌≡◌, ◌≢◌, ℕ, [], ◌∷◌, ◌+◌, ◌-◌, ◌*◌, ◌<◌, ◌≤◌, ◌++◌, List, drop, length, take, IfNone, IfOk, IfSome, OnErr};
 ghost use Rattle.std.specs.Arc.{arc_value};
 ghost use Rattle.octant_code.specs.Points.{site_at};
 ghost use Rattle.octant_code.specs.declared.limits.TheConstants.{MOST_BODIES};
 ghost use Rattle.octant_code.specs.Space.{IsUnder};
+ghost use Rattle.bh_model.specs.Blocks.{blocks};
 ghost use Rattle.bh_model.specs.Bodies.{NoneTwice};
-ghost use Rattle.octree.specs.Stored.{IsBlankFrom, word_count};
-ghost use Rattle.tree_rule.specs.Words.{body_word};
+ghost use Rattle.bh_model.specs.Trees.{cell_count, order};
+ghost use Rattle.octree.specs.Stored.{IsBlankFrom, IsCanonical, tree_of, word_count};
+ghost use Rattle.tree_rule.specs.Words.{body_word, HasBody};
 ghost use Rattle.tree_rule.specs.declared.words.TheConstants.{CELLS_OF_ONE, POOL_PLACE};
 ghost use Rattle.tree_passes.specs.declared.view.Writing.TheVariants.{UnderLocks};
 ghost use Rattle.tree_passes.specs.Counting.{times, without};
-ghost use Rattle.tree_passes.specs.Opening.{opening_of};
+ghost use Rattle.tree_passes.specs.Opening.{all_bodies, opening_of};
 ghost use Rattle.tree_passes.specs.Passes.{joined};
 ghost use Rattle.tree_passes.specs.Plays.{IsDrawn};
 ghost use Rattle.tree_passes.specs.Turns.{HasFound, HasNone};
 ghost use Rattle.shared_tree.specs.Finding.{NamesNoneAt};
+ghost use Rattle.shared_tree.specs.Merging.{others_among, HasAllBodies, IsMerged};
 ghost use Rattle.shared_tree.specs.Seen.{risen, seen_of, IsAtRest, IsCounted, IsOf, IsSplit};
 
 use crate::descent::insert;
+use crate::merge::{count_bodies, merge_part};
 use crate::publisher::Publisher;
 use crate::search::find;
 use cell_pool::Region;
 use octant_code::{OutOfMemory, Point, Points, Steps};
+use octree::Octree;
 use std::marker::Model;
 use std::sync::Arc;
 use std::sync::ledger::Ledger;
@@ -49,13 +54,13 @@ impl Model for TreeParts {
     ghost use Rattle.std.specs.Arc.{arc_value};
     ghost use Rattle.octree.specs.Stored.{IsBlankFrom, word_count};
     ghost use Rattle.tree_passes.specs.Opening.{opening_of};
-    ghost use Rattle.shared_tree.specs.Seen.{SharedTree};
+    ghost use Rattle.shared_tree.specs.Seen.{IsInside, SharedTree};
 
     ghost Value = { SharedTree };
 
     ghost view = { λ t. record { writing = t.table.shared.key.writing; table_id = t.table.shared.table_id; opening = opening_of t.table.shared.key } };
 
-    ghost invariant = { λ t. (t.table.shared.table_id.slots ≡ 0) × (arc_value t.points ≡ (opening_of t.table.shared.key).sites) × (length t.words.items ≡ t.table.shared.table_id.words) × IsBlankFrom t.words.items t.fresh × (word_count t.fresh ≤ length t.words.items) };
+    ghost invariant = { λ t. (t.table.shared.table_id.slots ≡ 0) × (arc_value t.points ≡ (opening_of t.table.shared.key).sites) × (length t.words.items ≡ t.table.shared.table_id.words) × IsBlankFrom t.words.items t.fresh × (word_count t.fresh ≤ length t.words.items) × IsInside (opening_of t.table.shared.key) };
 }
 
 /// What a pass is made of: its seat, the cells of its region, how many bodies it put in, and how often
@@ -235,6 +240,53 @@ impl TreeParts {
         pass.region.spend(used);
         pass.published = pass.published.saturating_add(1);
         pass.changes = pass.changes.saturating_add(1);
+    }
+
+    /// Merges a private octree of bodies of the todo list into the tree with cells of the pass's region,
+    /// by at most three steps for each of its cells and 66 for each of its bodies. It takes no memory.
+    /// Returns how often it published: at most as often as the part has blocks against the other bodies
+    /// of the opening, and once where there are none.
+    pub fn merge<P: Publisher, L: Ledger>(
+        &self,
+        publisher: &P,
+        pass: &mut PassParts,
+        part: &Octree,
+        steps: &mut Steps<L>,
+    ) -> u64
+        requires writing { self.now.writing ≡ P.writing }
+        requires tree { IsOf (seen_of pass.old) self.now }
+        requires base { part.now.base ≡ 1 }
+        requires canonical { IsCanonical self.now.opening.sites part.now }
+        requires todo { (x : ℕ) → HasBody part.now.words x → 1 ≤ times x pass.old.view.todo }
+        requires rest { IsAtRest pass.old.view pass.old.table_id.words pass.old.cells (length pass.old.cells) }
+        ensures table { pass.new.table_id ≡ pass.old.table_id }
+        ensures merged { (used : ℕ) × (used ≤ CELLS_OF_ONE * length (order (tree_of part.now))) × (pass.new.cells ≡ drop used pass.old.cells) × IsMerged pass.old.view pass.new.view (order (tree_of part.now)) (take used pass.old.cells) }
+        ensures stays { seen_of pass.new ≡ record (seen_of pass.old) { todo = pass.new.view.todo; done = pass.new.view.done; changes = pass.new.view.changes; loads = pass.new.view.loads; last = pass.new.view.last } }
+        ensures todo { (x : ℕ) → times x pass.new.view.todo + times x (order (tree_of part.now)) ≡ times x pass.old.view.todo }
+        ensures done { (x : ℕ) → times x pass.new.view.done ≡ times x (order (tree_of part.now)) + times x pass.old.view.done }
+        ensures changes { pass.new.view.changes ≡ pass.old.view.changes + result }
+        ensures most { result ≤ length (order (tree_of part.now)) }
+        ensures some { 1 ≤ length (order (tree_of part.now)) → 1 ≤ result }
+        ensures blocks { result ≤ blocks (site_at self.now.opening.sites) (order (tree_of part.now)) (others_among (all_bodies self.now.opening) (order (tree_of part.now))) }
+        ensures rest { IsAtRest pass.new.view pass.new.table_id.words pass.new.cells (length pass.new.cells) }
+        ensures steps { steps.new ≤ steps.old + 3 * (cell_count (tree_of part.now) + 22 * length (order (tree_of part.now))) }
+        ensures once { HasAllBodies (seen_of pass.old) self.now.opening → (result ≤ 1) × (steps.new ≤ steps.old + 3) }
+    {
+        part.canonical_tree(&self.points);
+        let bodies = count_bodies(&part.whole());
+        let merged = merge_part(
+            publisher,
+            &self.table.shared,
+            &mut pass.seat,
+            pass.region.rest(),
+            &self.points,
+            part,
+            steps,
+        );
+        pass.region.spend(merged.used);
+        pass.published = pass.published.saturating_add(bodies);
+        pass.changes = pass.changes.saturating_add(merged.changes);
+        merged.changes
     }
 }
 

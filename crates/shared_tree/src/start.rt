@@ -11,7 +11,7 @@ ghost use Rattle.octree.specs.Stored.{IsBlankFrom, IsCanonical, tree_of, word_co
 ghost use Rattle.tree_passes.specs.declared.view.Writing.TheVariants.{ByExchange};
 ghost use Rattle.tree_passes.specs.Counting.{numbers_from};
 ghost use Rattle.tree_passes.specs.Ends.{CanOpen, CanPool};
-ghost use Rattle.tree_passes.specs.Opening.{fresh_view, opening_of};
+ghost use Rattle.tree_passes.specs.Opening.{all_bodies, fresh_view, opening_of};
 ghost use Rattle.shared_tree.specs.Ends.{AreHandedOut, AreStartWords, Serves};
 ghost use Rattle.shared_tree.specs.Seen.{seen_of, IsAtRest};
 
@@ -178,7 +178,7 @@ pub fn open(
     ensures points { IfOk result (λ r. r.0.opening.sites ≡ arc_value points.now) }
     ensures words { IfOk result (λ r. (i : ℕ) → at_of r.0.opening.words i ≡ at_of start.words i) }
     ensures todo { IfOk result (λ r. r.0.opening.todo ≡ todo.now) }
-    ensures pass { IfOk result (λ r. seen_of r.1 ≡ record { table_id = r.0.table_id; points = arc_value points.now; todo = todo.now; done = []; seen = []; changes = 0; loads = 0; last = (0, 0) }) }
+    ensures pass { IfOk result (λ r. seen_of r.1 ≡ record { table_id = r.0.table_id; points = arc_value points.now; bodies = all_bodies r.0.opening; todo = todo.now; done = []; seen = []; changes = 0; loads = 0; last = (0, 0) }) }
     ensures cells { IfOk result (λ r. r.1.cells ≡ deal.region.items) }
     ensures quota { IfOk result (λ r. r.1.view.quota ≡ deal.quota) }
     ensures rest { IfOk result (λ r. (count : ℕ) → CELLS_OF_ONE * length todo.now ≤ count → IsAtRest r.1.view r.1.table_id.words deal.region.items count) }

@@ -1,14 +1,14 @@
 -- Facts between the steps of a search.
-use Rattle.std.proofs.Common.{◌≡◌, ◌≢◌, ℕ, ◌+◌, ◌<◌, ◌≤◌, ◌⊎◌, List, length, sym, ap, ◌∙◌, subst, inl, inr, arith}
+use Rattle.std.proofs.Common.{◌≡◌, ◌≢◌, ℕ, ◌+◌, ◌^◌, ◌<◌, ◌≤◌, ◌⊎◌, List, length, sym, ap, ◌∙◌, subst, inl, inr, arith}
 use Rattle.octant_code.specs.declared.limits.TheConstants.{LEVELS}
-use Rattle.octant_code.specs.Space.{Site, key_of, IsUnder}
+use Rattle.octant_code.specs.Space.{Site, key_of, origin, IsUnder}
 use Rattle.octant_code.specs.Points.{site_at, ArePoints}
 use Rattle.std.proofs.lemmas.Bool.{cases_lt}
 use Rattle.tree_rule.specs.Words.{body_word, cell_word}
 use Rattle.tree_passes.specs.declared.view.View.{View}
 use Rattle.tree_passes.specs.Counting.{times}
 use Rattle.tree_passes.specs.Passes.{loaded, Met}
-use Rattle.tree_passes.specs.Looks.{FoundBody, Looked, Sought}
+use Rattle.tree_passes.specs.Looks.{nowhere, FoundBody, Looked, Sought}
 use Rattle.tree_passes.specs.Turns.{Descends, HasFound, HasNone, IsStill}
 use Rattle.tree_passes.proofs.Turns.{descends_learnt, still_counted, still_looked, still_on}
 
@@ -30,6 +30,17 @@ looked_own v w i key value n point rule n_in own is s =
         | inr p ↦ let g : times n v.todo ≡ 0 = subst (λ (z : ℕ). times z v.todo ≡ 0) (omega arith) f.not_todo in omega arith
       ]
     ]
+
+-- a load on the way to no point is a plain look
+pub looked_nowhere : (v w : View) (i key value : ℕ) → ArePoints v.points → Sought v i key value nowhere w → Looked v i key value w
+looked_nowhere v w i key value rule s =
+    subst (Looked v i key value) (sym (s.miss (λ y e at. outside y (s.looked.tells.body y e) at))) s.looked
+  where
+    outside : (y : ℕ) → FoundBody (loaded v key value) key y → site_at v.points y ≢ nowhere
+    outside y f at =
+        let fits = (rule.in_cube y origin f.x_in).x_fits in
+        let far : (site_at v.points y).x ≡ 2 ^ 21 = ap (λ (z : Site). z.x) at in
+        omega arith
 
 -- a load that looks for a body at a point, with the key of a cube that holds the point
 module _ (u v w : View) (i level value : ℕ) (point : Site) (s : IsStill u v) (low : level ≤ LEVELS) (h : Sought v i (key_of point level) value point w) where

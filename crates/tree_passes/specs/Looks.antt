@@ -62,3 +62,7 @@ pub record Sought (v : View) (i key value : ℕ) (point : Site) (w : View) : Typ
   pub looked : Looked v i key value plain
   pub hit : (y : ℕ) → value ≡ body_word y → site_at v.points y ≡ point → w ≡ record plain { seen = y ∷ plain.seen }
   pub miss : ((y : ℕ) → value ≡ body_word y → site_at v.points y ≢ point) → w ≡ plain
+
+-- a point at which no body can be
+abbrev pub nowhere : Site
+nowhere = record { x = 2 ^ 21; y = 0; z = 0 }

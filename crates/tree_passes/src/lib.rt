@@ -16,7 +16,7 @@ mod view;
 pub use cells::{Cube, cells_to_part, part_two, read_word, write_cell, write_word};
 pub use ends::{Tree, close, open_free, open_locked};
 pub use exchanges::exchange;
-pub use loads::load;
+pub use loads::{load, look};
 pub use locks::{draw_cell, load_locked, store_locked, try_lock, unlock};
 pub use parts::{join_passes, split_pass};
 pub use plays::Batch;

@@ -18,6 +18,15 @@ impl Target for Brand {
     ghost point = { origin };
 }
 
+/// No body is sought: the point lies outside of the cube of all points.
+pub struct Nowhere;
+
+impl Target for Nowhere {
+    ghost use Rattle.tree_passes.specs.Looks.{nowhere};
+
+    ghost point = { nowhere };
+}
+
 /// A load of a published word on the way to a body at a point.
 pub struct Seek<T> {
     target: PhantomData<T>,

@@ -4,9 +4,9 @@ use Rattle.octant_code.specs.Space.{Site}
 use Rattle.octant_code.specs.declared.limits.TheConstants.{MOST_BODIES}
 use Rattle.tree_rule.proofs.Laws.{few_below}
 use Rattle.tree_passes.specs.declared.view.View.{View}
-use Rattle.tree_passes.specs.Opening.{Opening, fresh_view}
-use Rattle.shared_tree.specs.Seen.{IsAtRest, IsCounted}
-use Rattle.shared_tree.proofs.Starts.{rest_begun}
+use Rattle.tree_passes.specs.Opening.{Opening, fresh_view, opening_of}
+use Rattle.shared_tree.specs.Seen.{IsAtRest, IsCounted, IsInside}
+use Rattle.shared_tree.proofs.Starts.{opened_inside, rest_begun}
 use Rattle.shared_tree.proofs.start.begin.Goals.{In_ok-table}
 use Rattle.shared_tree.proofs.start.begin.Goals as goal
 
@@ -14,18 +14,29 @@ use Rattle.shared_tree.proofs.start.begin.Goals as goal
 abbrev opened : (c : In_ok-table) → Opening
 opened c = record { sites = arc_value c.args.points; words = c.args.words.items; todo = c.args.todo.now.items }
 
+-- what the table was opened with
+opened_is : (c : In_ok-table) → opening_of c.in_ok-table.table.shared.key ≡ opened c
+opened_is c =
+    c.in_ok-table.ensures.opening
+    ∙ ap (λ (z : List Site). record { sites = z; words = c.args.words.items; todo = c.args.todo.now.items }) c.deref.ensures
+
 -- the view of the first pass
 view : (c : In_ok-table) → c.in_ok-table.seat.me.0 ≡ fresh_view (opened c) c.args.deal.region.items c.args.deal.quota c.args.todo.now.items
 view c =
-    let e = c.in_ok-table.ensures in
-    ap (λ z. z.0) e.pass.1
-    ∙ ap (λ (o : Opening). fresh_view o c.args.deal.region.items c.args.deal.quota c.args.todo.now.items)
-    (e.opening ∙ ap (λ (z : List Site). record { sites = z; words = c.args.words.items; todo = c.args.todo.now.items }) c.deref.ensures)
+    ap (λ z. z.0) c.in_ok-table.ensures.pass.1
+    ∙ ap (λ (o : Opening). fresh_view o c.args.deal.region.items c.args.deal.quota c.args.todo.now.items) (opened_is c)
 
 pub invariant_of-tree : goal.invariant_of-tree
 invariant_of-tree c =
     let e = c.in_ok-table.ensures in
-    (e.counts.1, sym (ap (λ (o : Opening). o.sites) e.opening ∙ c.deref.ensures), e.long ∙ sym e.counts.0, e.blank c.args.fresh c.requires.fresh.0, omega (arith, e.long, c.requires.fresh.1))
+    let inside = opened_inside (arc_value c.args.points) c.args.words.items c.args.todo.now.items c.args.deal.region.items c.requires.opens in (
+      e.counts.1,
+      sym (ap (λ (o : Opening). o.sites) e.opening ∙ c.deref.ensures),
+      e.long ∙ sym e.counts.0,
+      e.blank c.args.fresh c.requires.fresh.0,
+      omega (arith, e.long, c.requires.fresh.1),
+      subst IsInside (sym (opened_is (goal.at.invariant_of-tree c).In_ok-table)) inside,
+    )
 
 pub invariant_of-pass : goal.invariant_of-pass
 invariant_of-pass c =
