@@ -7,14 +7,14 @@ use Rattle.build_workers.specs.declared.hands.Hand.{Hand}
 use Rattle.build_workers.specs.Hands.{joined_with, AreDealt}
 
 -- one share more is dealt
-pub dealt_more : {S P : Type 0} (items : S → List ℕ) (shares : List S) (w : ℕ) (s : S) (hands next : List (Hand P)) (h : Hand P) → w < length shares
+pub dealt_more : {S P O : Type 0} (items : S → List ℕ) (shares : List S) (w : ℕ) (s : S) (hands next : List (Hand P O)) (h : Hand P O) → w < length shares
     → s ≡ get_or shares w s → h.share.now ≡ items s → next ≡ hands ++ h ∷ [] → AreDealt (take w (map items shares)) hands
     → AreDealt (take (w + 1) (map items shares)) next
-dealt_more {P = P} items shares w s hands next h less is own more dealt =
+dealt_more {P = P} {O = O} items shares w s hands next h less is own more dealt =
     let all = map items shares in
     let inside : w < length all = omega (arith, less, length-map shares items) in
     let item : get_or all w [] ≡ items s = get_or-map items shares w s [] less ∙ ap items (sym is) in
-    ap (map (λ (k : Hand P). k.share.now)) more ∙ map-append (λ (k : Hand P). k.share.now) hands (h ∷ [])
+    ap (map (λ (k : Hand P O). k.share.now)) more ∙ map-append (λ (k : Hand P O). k.share.now) hands (h ∷ [])
     ∙ ap (λ (z : List (List ℕ)). z ++ (h.share.now ∷ [])) dealt ∙ ap (λ (z : List ℕ). take w all ++ (z ∷ [])) (own ∙ sym item)
     ∙ sym (take_more all w [] inside)
 
@@ -32,7 +32,7 @@ todo_alone p q r todo before e =
     e ∙ ap (λ (z : PassState). record z { todo = todo }) before ∙ ap (λ (t : List ℕ). record p { todo = t }) (sym (ap (λ (z : PassState). z.todo) e))
 
 -- a pass that takes in one more, and then the others
-pub joined_first : {P : Type 0} (state : P → PassState) (p q : PassState) (h : Hand P) (hands : List (Hand P))
+pub joined_first : {P O : Type 0} (state : P → PassState) (p q : PassState) (h : Hand P O) (hands : List (Hand P O))
     → q ≡ record p { done = p.done ++ (state h.pass).done; seen = p.seen ++ (state h.pass).seen; changes = p.changes + (state h.pass).changes }
     → joined_with state q hands ≡ joined_with state p (h ∷ hands)
 joined_first state p q h hands e =

@@ -9,7 +9,7 @@ pub mod trial;
 mod work;
 mod workers;
 
-pub use numbers::{deal_in_turns, first_numbers};
+pub use numbers::{deal_in_turns, deal_to_owners, first_numbers};
 pub use passes::{SharedInsert, SharedPasses};
 pub use work::{InsertEach, Work};
 pub use workers::work_shares;

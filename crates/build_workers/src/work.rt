@@ -1,21 +1,50 @@
 //! What one worker does.
 
-ghost use Rattle.std.specs.Prelude.{List, ℕ};
+ghost use Rattle.std.specs.Prelude.{List, ℕ, ⊤, IfOk};
 ghost use Rattle.build_workers.specs.Working.{one_for_each, IsDone, IsReady};
 
 use crate::passes::{SharedInsert, SharedPasses};
 use build_gate::{Gate, GatePoint};
-use std::marker::Sync;
+use octant_code::OutOfMemory;
+use std::alloc::Global;
+use std::marker::{Send, Sync};
 
 /// How one worker puts its share into a shared tree.
 pub trait Work<T: SharedPasses>: Sync {
+    ghost use Rattle.shared_tree.specs.Seen.{SharedTree};
+
+    /// What a worker has for itself.
+    type Own: Send + Drop;
+
+    // Which trees and shares it is for.
+    ghost serves: { Self → SharedTree → List ℕ → Type 0 };
+    // What a worker has for itself before it puts a share into a tree.
+    ghost prepared: { Self → SharedTree → List ℕ → Self.Own → Type 0 };
     // By how many publications a worker may put a share in.
     ghost publishes: { Self → List ℕ → ℕ → Type 0 };
 
+    /// Makes what a worker has for itself, with all memory that its work takes.
+    ///
+    /// # Errors
+    ///
+    /// `OutOfMemory` for want of memory.
+    fn prepare(&self, alloc: Global, tree: &T, share: &[u32]) -> Result<Self::Own, OutOfMemory>
+        requires serves { serves self.now (T.tree tree.now) share.now }
+        ensures { IfOk result (λ own. prepared self.now (T.tree tree.now) share.now own) };
+
     /// Puts the bodies of a share into the tree. The worker of this number passes the gate: `Start`
     /// before its first piece of work, `AfterFirst` after it, and `End`. It takes no memory.
-    fn work<G: Gate>(&self, tree: &T, pass: &mut T::Pass, share: &[u32], worker: u32, gate: &G)
+    fn work<G: Gate>(
+        &self,
+        tree: &T,
+        pass: &mut T::Pass,
+        share: &[u32],
+        own: &mut Self::Own,
+        worker: u32,
+        gate: &G,
+    )
         requires ready { IsReady (T.tree tree.now) (T.state pass.old) share.now }
+        requires prepared { prepared self.now (T.tree tree.now) share.now own.old }
         ensures done { IsDone (T.tree tree.now) (publishes self.now) (T.state pass.new) share.now };
 }
 
@@ -24,9 +53,27 @@ pub trait Work<T: SharedPasses>: Sync {
 pub struct InsertEach;
 
 impl<T: SharedInsert> Work<T> for InsertEach {
+    type Own = ();
+
+    ghost serves = { λ _ _ _. ⊤ };
+
+    ghost prepared = { λ _ _ _ _. ⊤ };
+
     ghost publishes = { λ _. one_for_each };
 
-    fn work<G: Gate>(&self, tree: &T, pass: &mut T::Pass, share: &[u32], worker: u32, gate: &G) {
+    fn prepare(&self, _alloc: Global, _tree: &T, _share: &[u32]) -> Result<(), OutOfMemory> {
+        Ok(())
+    }
+
+    fn work<G: Gate>(
+        &self,
+        tree: &T,
+        pass: &mut T::Pass,
+        share: &[u32],
+        _own: &mut (),
+        worker: u32,
+        gate: &G,
+    ) {
         gate.pass(worker, GatePoint::Start);
         for i in 0..share.len() {
             tree.insert(pass, share[i]);

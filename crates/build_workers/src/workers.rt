@@ -1,6 +1,6 @@
 //! Workers put shares of bodies into a shared tree, all at the same time.
 
-ghost use Rattle.std.specs.Prelude.{◌≡◌, ℕ, [], ◌≤◌, length, map, OnOk};
+ghost use Rattle.std.specs.Prelude.{◌≡◌, ℕ, [], ◌≤◌, All, length, map, OnOk};
 ghost use Rattle.tree_passes.specs.Counting.{times};
 ghost use Rattle.shared_tree.specs.Seen.{IsOf};
 ghost use Rattle.build_workers.specs.Shares.{times_in_all};
@@ -34,9 +34,10 @@ pub fn work_shares<R: Threads + Sync, T: SharedPasses, W: Work<T>, G: Gate>(
     requires count { (1 ≤ length shares.now) × (length shares.now ≤ 64) }
     requires nothing_done { ((T.state pass.old).done ≡ []) × ((T.state pass.old).changes ≡ 0) }
     requires parted { (x : ℕ) → times x (T.state pass.old).todo ≡ times_in_all x (map (λ s. s.items) shares.now) }
+    requires serves { All (λ s. W.serves work.now (T.tree tree.now) s.items) shares.now }
     ensures { OnOk result (HasPutShares (T.tree tree.now) (W.publishes work.now) (map (λ s. s.items) shares.now) (T.state pass.new)) }
 {
-    let mut hands = deal_hands(alloc, tree, pass, shares)?;
+    let mut hands = deal_hands(alloc, tree, pass, shares, work)?;
     work_all(rt, tree, hands.as_mut_slice(), work, gate);
     join_hands(tree, pass, hands);
     Ok(())

@@ -32,6 +32,7 @@ finds-found-requires g c =
       tree = record {
         table = ap (λ (p : PassState). p.table_id) c.insert.ensures.pass ∙ c.loop-i.invariant.0.table;
         points = ap (λ (p : PassState). p.points) c.insert.ensures.pass ∙ c.loop-i.invariant.0.points;
+        bodies = ap (λ (p : PassState). p.bodies) c.insert.ensures.pass ∙ c.loop-i.invariant.0.bodies;
       };
     }
 

@@ -48,12 +48,14 @@ loop-share-preserved c =
             record {
               table = ap (λ (p : PassState). p.table_id) new ∙ i.1.table;
               points = ap (λ (p : PassState). p.points) new ∙ i.1.points;
+              bodies = ap (λ (p : PassState). p.bodies) new ∙ i.1.bodies;
             },
             ap (λ (p : PassState). p.todo) new ∙ part ∙ sym c.as_slice.ensures.value,
           )),
       record {
         table = ap (λ (p : PassState). p.table_id) kept ∙ i.1.table;
         points = ap (λ (p : PassState). p.points) kept ∙ i.1.points;
+        bodies = ap (λ (p : PassState). p.bodies) kept ∙ i.1.bodies;
       },
       (λ x.
           let l = left x in

@@ -17,7 +17,11 @@ loop-i-preserved g c =
     let n = get_or share at 0 in
     let e = c.insert.ensures in
     let inside = c.loop-i-test.true in (
-      record { table = ap (λ (p : PassState). p.table_id) e ∙ i.0.table; points = ap (λ (p : PassState). p.points) e ∙ i.0.points },
+      record {
+        table = ap (λ (p : PassState). p.table_id) e ∙ i.0.table;
+        points = ap (λ (p : PassState). p.points) e ∙ i.0.points;
+        bodies = ap (λ (p : PassState). p.bodies) e ∙ i.0.bodies;
+      },
       ap (λ (p : PassState). p.todo) e ∙ ap (without n) (i.1 ∙ drop_more share at 0 inside) ∙ without_first n (drop (at + 1) share),
       (λ x.
           let d : times x (state c.insert.new.pass).done ≡ same n x + times x (state c.loop-i.pass).done = ap (λ (p : PassState). times x p.done) e in

@@ -1,0 +1,6 @@
+mod Alike
+mod Holders
+mod Merges
+mod Filled
+mod Done
+mod Opened

@@ -1,0 +1,5 @@
+use Rattle.partree_merge.specs.Filling.{IsFilled}
+use Rattle.partree_merge.proofs.fill.fill.Given as goal
+
+abbrev pub invariant-loop-i : goal.invariant-loop-i
+invariant-loop-i l = IsFilled l.points l.share l.initial.own l.own l.i
