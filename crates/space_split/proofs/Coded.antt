@@ -50,11 +50,11 @@ cubes_of_codes site most bodies codes p =
     ∙ cubes_alike octant_of_code most 21 0 1 (map (λ n. code_of (site n)) bodies) codes (alike_by_order (map (λ n. code_of (site n)) bodies) codes p)
 
 -- a slice that was written back into a whole list
-pub written_back : (s items : List ℕ) (len : ℕ) → length s ≡ length items → len ≡ length items → take len (s ++ drop (length s) items) ≡ s
-written_back s items len same all =
+pub written_back : {T : Type 0} (s items : List T) (len : ℕ) → length s ≡ length items → len ≡ length items → take len (s ++ drop (length s) items) ≡ s
+written_back {T = T} s items len same all =
     let none : drop (length s) items ≡ [] = ap (λ y. drop y items) same ∙ drop-length items in
     let whole : len ≡ length s = omega (arith, same, all) in
-    ap (λ y. take len (s ++ y)) none ∙ ap (λ y. take len y) (append-nil s) ∙ ap (λ y. take y s) whole ∙ take-length s
+    ap (λ (y : List T). take len (s ++ y)) none ∙ ap (λ (y : List T). take len y) (append-nil s) ∙ ap (λ y. take y s) whole ∙ take-length s
 
 -- codes in order are as many as the points
 pub as_many : (site : ℕ → Site) (n : ℕ) (codes : List ℕ) → IsPermutation (map (λ m. code_of (site m)) (numbers n)) codes → length codes ≡ n

@@ -32,7 +32,7 @@ power_above : (level : ℕ) → level < 21 → 8 ^ (21 - level) ≡ 8 ^ (20 - le
 power_above level deep = let e : 21 - level ≡ suc (20 - level) = omega arith in ap (λ y. 8 ^ y) e ∙ pow-suc 8 (20 - level)
 
 -- a code without the digits below a level, and without one more
-above_next : (code level : ℕ) → level < 21 → code / 8 ^ (20 - level) / 8 ≡ code / 8 ^ (21 - level)
+pub above_next : (code level : ℕ) → level < 21 → code / 8 ^ (20 - level) / 8 ≡ code / 8 ^ (21 - level)
 above_next code level deep = div-div-eq-div-mul code (8 ^ (20 - level)) 8 ∙ ap (λ y. code / y) (sym (power_above level deep))
 
 power_positive : (n : ℕ) → 0 < 8 ^ n
@@ -52,7 +52,7 @@ octants_rise xs level key deep rising under i j d l m =
     omega (arith, shorter, ka, kb)
 
 -- the codes of an octant's cube are those of the cube with the octant
-child_codes : (codes : List ℕ) (most level : ℕ) (cube : Cube) (k : ℕ) → level < 21 → IsNonDecreasing codes → IsRange codes most level cube → most < cube.count
+pub child_codes : (codes : List ℕ) (most level : ℕ) (cube : Cube) (k : ℕ) → level < 21 → IsNonDecreasing codes → IsRange codes most level cube → most < cube.count
     → take (octant_count (codes_of codes cube) level k) (drop (cube.start + earlier_count (codes_of codes cube) level k) codes)
     ≡ of_octant octant_of_code level k (codes_of codes cube)
 child_codes codes most level cube k deep rising range many =

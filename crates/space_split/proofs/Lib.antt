@@ -3,3 +3,11 @@ pub mod Slices
 pub mod Divisions
 pub mod Counts
 pub mod Pushes
+pub mod Sorting
+pub mod Runs
+pub mod Members
+pub mod Above
+pub mod Building
+pub mod Joined
+pub mod Joining
+pub mod Cut

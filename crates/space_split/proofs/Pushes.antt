@@ -50,7 +50,7 @@ at_place R (x ∷ xs) (y ∷ ys) zero d e z l = (omega arith, z.0)
 at_place R (x ∷ xs) (y ∷ ys) (suc i) d e z l = let r = at_place R xs ys i d e z.1 (omega arith) in (omega (arith, r.0), r.1)
 
 -- a function of a row of numbers from 0 on
-pub row_is_numbers : (f : ℕ → ℕ) (n : ℕ) → map f (range_with_len 0 n) ≡ map f (numbers n)
+pub row_is_numbers : {T : Type 0} (f : ℕ → T) (n : ℕ) → map f (range_with_len 0 n) ≡ map f (numbers n)
 unfolding numbers
 row_is_numbers f zero = refl
 row_is_numbers f (suc n) =

@@ -56,7 +56,7 @@ drop_none : (i : ℕ) → drop {A = ℕ} i [] ≡ []
 drop_none zero = refl
 drop_none (suc i) = refl
 
-drop_drop : (n m : ℕ) (xs : List ℕ) → drop m (drop n xs) ≡ drop (n + m) xs
+pub drop_drop : (n m : ℕ) (xs : List ℕ) → drop m (drop n xs) ≡ drop (n + m) xs
 drop_drop zero m xs = let e : 0 + m ≡ m = omega arith in ap (λ y. drop y xs) (sym e)
 drop_drop (suc n) m [] = drop_none m ∙ sym (drop_none (suc n + m))
 drop_drop (suc n) m (x ∷ xs) = let e : suc n + m ≡ suc (n + m) = omega arith in drop_drop n m xs ∙ ap (λ y. drop y (x ∷ xs)) (sym e)

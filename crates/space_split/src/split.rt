@@ -7,8 +7,9 @@ ghost use Rattle.bh_model.specs.Bodies.{numbers};
 ghost use Rattle.bh_model.specs.Pieces.{cubes_from, dealt, piece_limit, pieces};
 ghost use Rattle.bh_model.specs.Plans.{HasWorkers};
 ghost use Rattle.space_split.specs.Ranges.{AreCodes, AreCubesOf, octant_of_code, pair_of};
+ghost use Rattle.space_split.specs.Rows.{AreWhole};
 
-use crate::codes::sorted_codes;
+use crate::codes::{codes_alone, sorted_bodies};
 use crate::count::divide;
 use crate::cube::Cube;
 use bh_model::Piece;
@@ -33,13 +34,14 @@ pub fn pieces<R: Threads + Sync>(
     ensures { IfOk result (λ v. v.items ≡ pieces (site_at points.now) workers (numbers (length points.now))) }
 {
     let count = points.len();
-    let codes = sorted_codes(rt, alloc, points)?;
+    let bodies = sorted_bodies(rt, alloc, points)?;
+    let codes = codes_alone(alloc, &bodies)?;
     let cubes = undivided_cubes(rt, alloc, &codes, piece_limit(count, workers))?;
     deal(alloc, &cubes, count, workers)
 }
 
 /// The greatest number of bodies of a cube that isn't divided.
-fn piece_limit(count: u32, workers: u32) -> u32
+pub fn piece_limit(count: u32, workers: u32) -> u32
     requires { HasWorkers workers }
     ensures { result ≡ piece_limit count workers }
 {
@@ -47,7 +49,7 @@ fn piece_limit(count: u32, workers: u32) -> u32
 }
 
 /// The cubes that hold a body and aren't divided, in tree order.
-fn undivided_cubes<R: Threads + Sync>(
+pub fn undivided_cubes<R: Threads + Sync>(
     rt: &R,
     alloc: Global,
     codes: &[u64],
@@ -57,6 +59,7 @@ fn undivided_cubes<R: Threads + Sync>(
     requires rule { AreCodes codes.now }
     ensures cubes { IfOk result (λ v. map pair_of v.items ≡ cubes_from octant_of_code most 21 0 1 codes.now) }
     ensures some { IfOk result (λ v. All (λ c. 1 ≤ c.count) v.items) }
+    ensures whole { IfOk result (λ v. AreWhole codes.now v.items) }
 {
     let mut cubes = first_cube(alloc, codes)?;
     for level in 0..LEVELS {
@@ -72,7 +75,8 @@ fn undivided_cubes<R: Threads + Sync>(
 fn first_cube(alloc: Global, codes: &[u64]) -> Result<Vec<Cube>, OutOfMemory>
     requires few { length codes.now ≤ MOST_BODIES }
     requires rule { AreCodes codes.now }
-    ensures { IfOk result (λ v. (most : ℕ) → AreCubesOf codes.now most 0 v.items) }
+    ensures cubes { IfOk result (λ v. (most : ℕ) → AreCubesOf codes.now most 0 v.items) }
+    ensures whole { IfOk result (λ v. AreWhole codes.now v.items) }
 {
     let mut cubes: Vec<Cube> = Vec::new(alloc);
     if !codes.is_empty() {
@@ -93,7 +97,12 @@ fn are_small(cubes: &[Cube], most: u32) -> bool
 }
 
 /// The cubes as pieces, each with its worker.
-fn deal(alloc: Global, cubes: &[Cube], whole: u32, workers: u32) -> Result<Vec<Piece>, OutOfMemory>
+pub fn deal(
+    alloc: Global,
+    cubes: &[Cube],
+    whole: u32,
+    workers: u32,
+) -> Result<Vec<Piece>, OutOfMemory>
     requires workers { HasWorkers workers }
     requires some { All (λ c. 1 ≤ c.count) cubes.now }
     requires whole { sum_by (λ c. c.count) cubes.now ≡ whole }

@@ -10,7 +10,7 @@ use std::alloc::Global;
 use std::test::Fail;
 
 /// The points of a few triples of coordinates.
-fn points_of(alloc: Global, triples: &[(u32, u32, u32)]) -> Result<Points, Fail> {
+pub fn points_of(alloc: Global, triples: &[(u32, u32, u32)]) -> Result<Points, Fail> {
     let mut list: Vec<Point> = Vec::new(alloc);
     for (x, y, z) in triples {
         match Point::new(*x, *y, *z) {
@@ -75,7 +75,7 @@ fn two_bodies_one_step_apart_in_z(rt: HostRuntime) -> Result<(), Fail> {
 
 /// Many triples of coordinates: every other one is anywhere in the cube, and the others are crowded in
 /// one corner.
-fn scattered(alloc: Global, count: u32) -> Result<Vec<(u32, u32, u32)>, Fail> {
+pub fn scattered(alloc: Global, count: u32) -> Result<Vec<(u32, u32, u32)>, Fail> {
     let mut triples: Vec<(u32, u32, u32)> = Vec::new(alloc);
     for n in 0..count {
         let side = if n % 2 == 0 { 1 << 21 } else { 1 << 9 };
