@@ -1,10 +1,10 @@
 -- What an engine holds at a stage.
-use Rattle.std.proofs.Common.{◌≡◌, ◌∙◌, List, Some, ap, subst}
-use Rattle.octant_code.specs.Space.{Site}
+use Rattle.std.proofs.Common.{◌≡◌, Some, ap, subst, sym}
 use Rattle.octree.specs.Stored.{IsOctreeOf}
 use Rattle.octree.specs.Stored.{Stored}
 use Rattle.scene_file.specs.Bodies.{sites_of}
-use Rattle.frame_core.specs.Engines.{EngineState, WithTree}
+use Rattle.frame_core.specs.Building.{IsMadeTree, MadeTree}
+use Rattle.frame_core.specs.Engines.{EngineState, HasTree, WithTree, tree_for}
 use Rattle.frame_core.specs.Held.{AreParts, HasLast, IsEngine, KeepsStage, stage_of, state_of}
 use Rattle.frame_core.specs.declared.engine.Engine.TheInside.{Inside}
 use Rattle.frame_core.specs.declared.stage.FrameParts.{FrameParts}
@@ -20,19 +20,23 @@ frame_of_stage i e parts seen rule frame =
     subst P seen (subst Q frame rule.at_stage).1
 
 -- where the points have a tree, it is the last one
-last_of : (e : EngineState) (s : Stage) → stage_of s ≡ WithTree → KeepsStage e s → HasLast e
-last_of e held.Bare a h = cc
+last_of : (e : EngineState) (s : Stage) → HasTree (stage_of s) → KeepsStage e s → HasLast e
+last_of e held.Bare a h = absurd a
 last_of e held.Tree a h = h
 last_of e (held.Frame parts) a h = h.0
-last_of e held.Spent a h = cc
+last_of e held.Spent a h = absurd a
 
--- where the points have a tree, the octree that is kept last is theirs
-pub octree_of_stage : (i : Inside) (e : EngineState) (kept : List Site) (o : Stored) → state_of i ≡ e → IsEngine (state_of i) i.stage → e.stage ≡ WithTree
+-- where the points have a tree, the octree that is kept last is theirs, made by the engine's plan
+pub made_of_stage : (i : Inside) (e : EngineState) (kept : MadeTree) (o : Stored) → state_of i ≡ e → IsEngine (state_of i) i.stage → HasTree e.stage
     → i.last ≡ Some kept
-    → IsOctreeOf kept o → IsOctreeOf (sites_of i.bodies) o
-octree_of_stage i e kept o seen rule tree last h =
-    let stage : stage_of i.stage ≡ WithTree = ap (λ s. s.stage) seen ∙ tree in
-    let P : List Site → Type 0 = λ s. IsOctreeOf s o in
-    let own : i.last ≡ Some (sites_of i.bodies) = last_of (state_of i) i.stage stage rule.at_stage in
-    let same : kept ≡ sites_of i.bodies = cc in
-    subst P same h
+    → IsMadeTree kept o → IsMadeTree (tree_for i.plan i.bodies) o
+made_of_stage i e kept o seen rule tree last h =
+    let stage : stage_of i.stage ≡ e.stage = ap (λ s. s.stage) seen in
+    let own : i.last ≡ Some (tree_for i.plan i.bodies) = last_of (state_of i) i.stage (subst HasTree (sym stage) tree) rule.at_stage in
+    let same : kept ≡ tree_for i.plan i.bodies = cc in
+    subst (λ (m : MadeTree). IsMadeTree m o) same h
+
+pub octree_of_stage : (i : Inside) (e : EngineState) (kept : MadeTree) (o : Stored) → state_of i ≡ e → IsEngine (state_of i) i.stage → e.stage ≡ WithTree
+    → i.last ≡ Some kept
+    → IsMadeTree kept o → IsOctreeOf (sites_of i.bodies) o
+octree_of_stage i e kept o seen rule tree last h = (made_of_stage i e kept o seen rule (subst HasTree (sym tree) tt) last h).octree

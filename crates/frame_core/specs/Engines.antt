@@ -1,6 +1,5 @@
 -- What contracts see of an engine.
 use Rattle.std.specs.Prelude.{ℕ, pos, ◌*◌, ◌^◌, List, Option, None, Some, length, map, ⊤}
-use Rattle.octant_code.specs.Space.{Site}
 use Rattle.bh_model.specs.Motions.{Exact, Velocity}
 use Rattle.bh_model.specs.Plans.{TreePlan}
 use Rattle.bh_model.specs.Zones.{first_costs}
@@ -8,6 +7,7 @@ use Rattle.mass_moments.specs.Kept.{cost_at}
 use Rattle.probe.specs.Figures.{FrameFigures}
 use Rattle.scene_file.specs.Bodies.{sites_of}
 use Rattle.scene_file.specs.declared.bodies.Body.{Body}
+use Rattle.frame_core.specs.Building.{MadeTree, Publications, told_pieces, tree_publishes}
 use Rattle.frame_core.specs.Frames.{frame_figures}
 use Rattle.frame_core.specs.Shares.{first_shares}
 
@@ -19,7 +19,7 @@ pub data EngineStage : Type 0 where
   Spent : EngineStage
 
 -- the plan, the number of the frame, the bodies, where these are exactly and how fast they move, the cost of each, the shares in which workers build, the
--- points of the last tree that was made, and the stage
+-- last tree that was made, and the stage
 pub record EngineState : Type 0 where
   pub plan : TreePlan
   pub step : ℕ
@@ -28,7 +28,7 @@ pub record EngineState : Type 0 where
   pub velocities : List Velocity
   pub costs : List ℕ
   pub shares : List (List ℕ)
-  pub last : Option (List Site)
+  pub last : Option MadeTree
   pub stage : EngineStage
 
 -- the points have a tree
@@ -36,6 +36,12 @@ abbrev pub HasTree : EngineStage → Type 0
 HasTree WithTree = ⊤
 HasTree WithFrame = ⊤
 HasTree _ = ⊥
+
+-- what is told of a tree, at a stage: nothing where the points have none
+abbrev pub where_built : {T : Type 0} → EngineStage → Option T → Option T
+where_built WithTree told = told
+where_built WithFrame told = told
+where_built _ told = None
 
 -- no call was refused
 abbrev pub IsUsable : EngineStage → Type 0
@@ -64,9 +70,13 @@ opened plan bodies = record {
   stage = WithoutTree;
 }
 
+-- the tree that a plan makes for bodies
+abbrev pub tree_for : TreePlan → List Body → MadeTree
+tree_for plan bodies = record { plan = plan; sites = sites_of bodies }
+
 -- the engine once its points have a tree
 abbrev pub with_tree : EngineState → EngineState
-with_tree e = record e { last = Some (sites_of e.bodies); stage = WithTree }
+with_tree e = record e { last = Some (tree_for e.plan e.bodies); stage = WithTree }
 
 -- the engine once it has its frame
 abbrev pub with_frame : EngineState → EngineState
@@ -75,3 +85,11 @@ with_frame e = record e { stage = WithFrame }
 -- the figures of an engine's frame
 abbrev pub frame_of : EngineState → FrameFigures
 frame_of e = frame_figures e.plan (cost_at e.costs) e.step e.bodies
+
+-- how many pieces the builder of an engine made of its bodies, where it tells of any
+abbrev pub builder_pieces : EngineState → Option ℕ
+builder_pieces e = told_pieces e.plan.builder e.plan.workers (sites_of e.bodies)
+
+-- what the builder of an engine publishes for the tree of its bodies
+abbrev pub builder_publishes : EngineState → Publications
+builder_publishes e = tree_publishes e.plan.builder (sites_of e.bodies) e.shares

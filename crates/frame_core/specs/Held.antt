@@ -6,8 +6,7 @@ use Rattle.bh_model.specs.Zones.{zones}
 use Rattle.force_walk.specs.Walks.{pulls}
 use Rattle.mass_moments.specs.Kept.{IsCost, cost_at, matter_of}
 use Rattle.build_workers.specs.Shares.{AreShares}
-use Rattle.scene_file.specs.Bodies.{sites_of}
-use Rattle.frame_core.specs.Engines.{EngineStage, EngineState, WithoutTree, WithTree, WithFrame, Spent as IsSpent, at_rest, first_exact, frame_of}
+use Rattle.frame_core.specs.Engines.{EngineStage, EngineState, WithoutTree, WithTree, WithFrame, Spent as IsSpent, at_rest, first_exact, frame_of, tree_for}
 use Rattle.frame_core.specs.Frames.{tree_of_bodies}
 use Rattle.frame_core.specs.declared.engine.Engine.TheInside.{Inside}
 use Rattle.frame_core.specs.declared.stage.FrameParts.{FrameParts}
@@ -42,9 +41,9 @@ pub record AreParts (e : EngineState) (parts : FrameParts) : Type 0 where
   pub zones : map (λ z. z.items) parts.zones.items ≡ zones (cost_at e.costs) e.plan.workers (tree_of_bodies e.bodies)
   pub pulls : parts.pulls.items ≡ pulls e.plan.law (matter_of e.bodies) (length e.bodies) (tree_of_bodies e.bodies)
 
--- the last tree that an engine made is that of its bodies' points
+-- the last tree that an engine made is that of its plan and its bodies' points
 abbrev pub HasLast : EngineState → Type 0
-HasLast e = e.last ≡ Some (sites_of e.bodies)
+HasLast e = e.last ≡ Some (tree_for e.plan e.bodies)
 
 -- what an engine keeps at a stage: where the points have a tree it is the last one, and where they have a frame its parts
 abbrev pub KeepsStage : EngineState → Stage → Type 0

@@ -27,8 +27,8 @@ use std::thread::Threads;
 /// of it.
 ///
 /// Contracts see it as an `EngineState`: the plan, the number of the frame, the bodies, where these
-/// are exactly and how fast they move, the cost of each, the shares in which workers build, the points
-/// of the last tree that was made, and the stage, which says whether the points have a tree and a
+/// are exactly and how fast they move, the cost of each, the shares in which workers build, the last
+/// tree that was made, and the stage, which says whether the points have a tree and a
 /// frame, and whether the engine is spent.
 #[derive(Drop)]
 pub struct Engine {
@@ -55,16 +55,17 @@ impl Model for Engine {
 }
 
 impl Engine {
-    ghost use Rattle.std.specs.Prelude.{◌≡◌, ◌<◌, IfOk, IsErr, OnErr, OnOk, length};
+    ghost use Rattle.std.specs.Prelude.{◌≡◌, ◌<◌, IfOk, IsErr, OnErr, OnOk, length, map};
     ghost use Rattle.octant_code.specs.Points.{site_at};
     ghost use Rattle.bh_model.specs.Trees.{depth};
     ghost use Rattle.bh_model.specs.Zones.{zone};
-    ghost use Rattle.bh_model.specs.declared.plan.Builder.TheVariants.{Local, Orig};
-    ghost use Rattle.frame_core.specs.Engines.{HasTree, IsUsable, Spent, WithFrame, WithTree, WithoutTree, frame_of, opened, with_frame, with_tree};
+    ghost use Rattle.bh_model.specs.declared.plan.Builder.TheVariants.{Orig, Space};
+    ghost use Rattle.frame_core.specs.Building.{IsFree, Rises, pieces_at};
+    ghost use Rattle.frame_core.specs.Engines.{HasTree, IsUsable, Spent, WithFrame, WithTree, WithoutTree, builder_pieces, builder_publishes, frame_of, opened, tree_for, where_built, with_frame, with_tree};
     ghost use Rattle.frame_core.specs.Frames.{pull_on, tree_of_bodies};
     ghost use Rattle.frame_core.specs.Held.{AreParts};
-    ghost use Rattle.shared_tree.specs.Seen.{risen};
     ghost use Rattle.mass_moments.specs.Kept.{cost_at};
+    ghost use Rattle.octree.specs.ByKeys.{StandsByKeys};
     ghost use Rattle.octree.specs.Stored.{IsOctreeOf, tree_of};
     ghost use Rattle.scene_file.specs.Bodies.{sites_of};
 
@@ -108,12 +109,19 @@ impl Engine {
         requires bare { self.old.stage ≡ WithoutTree }
         ensures made { OnOk result (self.new ≡ with_tree self.old) }
         ensures refused { OnErr result (self.new.stage ≡ Spent) }
-        ensures published { OnOk result (locked.new.published ≡ risen locked.old.published (length self.old.bodies)) }
-        ensures changes { OnOk result (locked.new.changes ≡ risen locked.old.changes (length self.old.bodies)) }
+        ensures counts { OnOk result (Rises (builder_publishes self.old) locked.old locked.new) }
         ensures kept { OnErr result (locked.new ≡ locked.old) }
     {
         let shares = self.shares.as_slice();
-        match KeptTree::make(rt, self.alloc, &self.bodies, shares, locked, gate) {
+        match KeptTree::make(
+            rt,
+            self.alloc,
+            self.plan,
+            &self.bodies,
+            shares,
+            locked,
+            gate,
+        ) {
             Ok(tree) => {
                 self.keep(tree);
                 Ok(())
@@ -122,9 +130,10 @@ impl Engine {
         }
     }
 
-    /// Makes the canonical octree of the bodies' points by the builder LOCAL: the workers build it, each
-    /// its share of the bodies, and pass the gate. The yard counts a body and a publication for each
-    /// body. It waits for nobody.
+    /// Makes the canonical octree of the bodies' points by a builder that waits for nobody: the workers
+    /// build it and pass the gate. For LOCAL the yard counts a body and a publication for each body, for
+    /// PARTREE each body and at most as many publications as the workers' shares have blocks, and for
+    /// SPACE nothing.
     ///
     /// # Errors
     ///
@@ -135,17 +144,15 @@ impl Engine {
         free: &mut FreeYard,
         gate: &G,
     ) -> Result<(), OutOfMemory>
-        requires builder { self.old.plan.builder ≡ Local }
+        requires builder { IsFree self.old.plan.builder }
         requires bare { self.old.stage ≡ WithoutTree }
         ensures made { OnOk result (self.new ≡ with_tree self.old) }
         ensures refused { OnErr result (self.new.stage ≡ Spent) }
-        ensures published { OnOk result (free.new.published ≡ risen free.old.published (length self.old.bodies)) }
-        ensures changes { OnOk result (free.new.changes ≡ risen free.old.changes (length self.old.bodies)) }
+        ensures counts { OnOk result (Rises (builder_publishes self.old) free.old free.new) }
         ensures kept { OnErr result (free.new ≡ free.old) }
     {
-        let builder = self.plan.builder;
         let shares = self.shares.as_slice();
-        match KeptTree::make_free(rt, self.alloc, builder, &self.bodies, shares, free, gate) {
+        match KeptTree::make_free(rt, self.alloc, self.plan, &self.bodies, shares, free, gate) {
             Ok(tree) => {
                 self.keep(tree);
                 Ok(())
@@ -156,7 +163,7 @@ impl Engine {
 
     // Keeps the tree of the bodies' points, which is the last one from then on.
     fn keep(&mut self, tree: KeptTree)
-        requires { tree ≡ sites_of self.old.bodies }
+        requires { tree ≡ tree_for self.old.plan self.old.bodies }
         ensures { self.new ≡ with_tree self.old }
     {
         self.last = Some(tree);
@@ -238,10 +245,22 @@ impl Engine {
         requires { HasTree self.now.stage }
         ensures canonical { IsOctreeOf (sites_of self.now.bodies) result.now }
         ensures tree { tree_of result.now ≡ tree_of_bodies self.now.bodies }
+        ensures by_pieces { self.now.plan.builder ≡ Space → StandsByKeys (map (λ p. p.key) (pieces_at self.now.plan.workers (sites_of self.now.bodies))) result.now }
     {
         match &self.last {
             Some(tree) => tree.octree(),
             None => unreachable!(),
+        }
+    }
+
+    /// How many pieces the cube was divided into. Some exactly where the builder is SPACE and the bodies'
+    /// points have a tree.
+    pub fn pieces(&self) -> Option<u32>
+        ensures { result ≡ where_built self.now.stage (builder_pieces self.now) }
+    {
+        match (&self.stage, &self.last) {
+            (Stage::Tree | Stage::Frame(_), Some(tree)) => tree.pieces(),
+            _ => None,
         }
     }
 

@@ -5,7 +5,8 @@ use Rattle.std.proofs.lemmas.List.{append-nil, length-append}
 use Rattle.std.proofs.lemmas.Bool.Decides.{nat_tests}
 use Rattle.std.specs.Io.KnownBytes.{Consumes, IsAtEnd}
 use Rattle.bh_outside.specs.Outside.{Rose}
-use Rattle.frame_core.specs.Engines.{EngineState, opened, with_tree}
+use Rattle.frame_core.specs.Building.{IsFree, Publications, Rises}
+use Rattle.frame_core.specs.Engines.{EngineState, builder_publishes, opened, with_tree}
 use Rattle.bh_outside.proofs.Takings.{no_prefix, took_none}
 use Rattle.scene_file.specs.Scene.{scene_of}
 use Rattle.scene_file.specs.declared.bodies.Body.{Body}
@@ -19,8 +20,8 @@ use Rattle.nbody_options.specs.Options.{is_served, serves_builder, serves_comman
 use Rattle.nbody_options.specs.declared.options.Command.{Command}
 use Rattle.nbody_options.specs.declared.options.Command.TheVariants as command
 use Rattle.nbody_cli.specs.Lines.{lines_text}
-use Rattle.nbody_cli.specs.Serving.{Answers, AreLeft, Completes, Counts, Ends, IsEarly, IsOpened, Ports, RoseAtMost, RoseBy, Serves, ServesOptions, Wanted, World}
-use Rattle.nbody_cli.specs.Serving.{needs_source, other_yard_of, ports, publishes, reads_source, sink_port, status_of_fault, tree_publishes}
+use Rattle.nbody_cli.specs.Serving.{Answers, AreLeft, Completes, Counts, Ends, IsEarly, IsOpened, Ports, RisesAtMost, Serves, ServesOptions, Wanted, World}
+use Rattle.nbody_cli.specs.Serving.{chosen_builder, needs_source, no_publications, other_yard_of, ports, publishes, reads_source, sink_port, status_of_fault}
 use Rattle.nbody_cli.specs.Serving.{wanted, wanted_of_bodies, wanted_of_fault, wanted_of_scene, world, yard_of}
 use Rattle.nbody_cli.specs.Text.{command_text, engine_lines}
 use Rattle.nbody_cli.specs.declared.status.Status.{Status}
@@ -44,21 +45,19 @@ needs options o e served none =
     let needed : needs_source options ≡ true = ap needs_source e ∙ reads o served in
     cc
 
--- a builder that is served is ORIG or LOCAL
-local_served : (k : Bool) (b : Builder) (rest : Bool) → (k && (serves_builder b && rest)) ≡ true → (b ≡ builder.Orig → ⊥) → b ≡ builder.Local
-local_served true builder.Orig rest h other = absurd (other refl)
-local_served true builder.Local rest h other = refl
-local_served true builder.Update rest h other = cc
-local_served true builder.Partree rest h other = cc
-local_served true builder.Space rest h other = cc
-local_served false b rest h other = cc
+-- a builder that is served is ORIG, or waits for nobody
+free_served : (k : Bool) (b : Builder) (rest : Bool) → (k && (serves_builder b && rest)) ≡ true → (b ≡ builder.Orig → ⊥) → IsFree b
+free_served true builder.Orig rest h other = absurd (other refl)
+free_served true builder.Local rest h other = tt
+free_served true builder.Update rest h other = cc
+free_served true builder.Partree rest h other = tt
+free_served true builder.Space rest h other = tt
+free_served false b rest h other = cc
 
-pub is_local : (o : Choices) → is_served o ≡ true → (o.plan.builder ≡ builder.Orig → ⊥) → o.plan.builder ≡ builder.Local
-is_local o served other = local_served (serves_command o.command) o.plan.builder _ served other
-
--- so each body of a tree is published that has another builder than ORIG
-pub published_free : (o : Choices) → is_served o ≡ true → (o.plan.builder ≡ builder.Orig → ⊥) → (n : ℕ) → tree_publishes o.plan.builder n ≡ n
-published_free o served other n = ap (λ b. tree_publishes b n) (is_local o served other)
+pub is_free : (o : Choices) (e : EngineState) → is_served o ≡ true → (o.plan.builder ≡ builder.Orig → ⊥) → e ≡ opened o.plan e.bodies → IsFree e.plan.builder
+is_free o e served other engine =
+    let same : o.plan.builder ≡ e.plan.builder = sym (ap (λ (s : EngineState). s.plan.builder) engine) in
+    subst IsFree same (free_served (serves_command o.command) o.plan.builder _ served other)
 
 -- the command of options that are served is served
 command_first : (k rest : Bool) → (k && rest) ≡ true → k ≡ true
@@ -129,27 +128,27 @@ longer (Some xs) (Some ys) given limit gave long = omega (arith, ap length gave,
 -- ---- the counts of a yard
 
 -- a yard that is as it was
-pub stayed : (n : ℕ) (y : YardCounts) → RoseAtMost n y y
-stayed n y = (omega arith, omega arith, omega arith, omega arith)
+pub stayed : (p : Publications) (y : YardCounts) → RisesAtMost p y y
+stayed p y = (omega arith, omega arith, omega arith, omega arith)
 
 -- before a tree is made a yard is as it was
-stays : (n : ℕ) (y : YardCounts) (s : Status) → IsEarly s → Counts n y y s
-stays n y status.Done early = absurd early
-stays n y status.Usage early = absurd early
-stays n y status.Read early = refl
-stays n y status.Write early = stayed n y
-stays n y status.Scene early = refl
-stays n y status.Memory early = stayed n y
+stays : (p : Publications) (y : YardCounts) (s : Status) → IsEarly s → Counts p y y s
+stays p y status.Done early = absurd early
+stays p y status.Usage early = absurd early
+stays p y status.Read early = refl
+stays p y status.Write early = stayed p y
+stays p y status.Scene early = refl
+stays p y status.Memory early = stayed p y
 
 -- a count of 64 bits that rose by so many
 risen_within : (count n : ℕ) → count ≤ 2 ^ 64 - 1 → (count ≤ risen count n) × (risen count n ≤ count + n)
 risen_within count n small = (omega arith, omega arith)
 
-rose_within : (n : ℕ) (y z : YardCounts) → y.published ≤ 2 ^ 64 - 1 → y.changes ≤ 2 ^ 64 - 1 → RoseBy n y z → RoseAtMost n y z
-rose_within n y z published changes rose =
-    let p = risen_within y.published n published in
-    let q = risen_within y.changes n changes in
-    (rw rose.0 p.0, rw rose.0 p.1, rw rose.1 q.0, rw rose.1 q.1)
+rises_within : (p : Publications) (y z : YardCounts) → y.published ≤ 2 ^ 64 - 1 → y.changes ≤ 2 ^ 64 - 1 → Rises p y z → RisesAtMost p y z
+rises_within p y z published changes (bodies, count, least, most, rose) =
+    let q = risen_within y.published p.bodies published in
+    let r = risen_within y.changes count changes in
+    (rw bodies q.0, rw bodies q.1, rw rose r.0, omega (arith, rose, r.1, most))
 
 -- ---- the ends of a run
 
@@ -160,8 +159,8 @@ record IsEnd (w : Wanted) (before after : Ports) (y z : YardCounts) (s : Status)
   counts : Counts w.publishes y z s
   no_usage : s ≡ status.Usage → ⊥
 
-over_sink : (text : List ℕ) (n : ℕ) (l0 l1 wb wn : Option (List ℕ)) (rb rn kb kn : ℕ) (y z : YardCounts) (s : Status) → IsAtEnd l1 → RoseBy n y z
-    → RoseAtMost n y z → Ends (wanted_of_bodies text 0) (sink_port wb kb) (sink_port wn kn) s
+over_sink : (text : List ℕ) (n : Publications) (l0 l1 wb wn : Option (List ℕ)) (rb rn kb kn : ℕ) (y z : YardCounts) (s : Status) → IsAtEnd l1 → Rises n y z
+    → RisesAtMost n y z → Ends (wanted_of_bodies text no_publications) (sink_port wb kb) (sink_port wn kn) s
     → IsEnd (wanted_of_bodies text n) (ports l0 rb wb kb) (ports l1 rn wn kn) y z s
 over_sink text n l0 l1 wb wn rb rn kb kn y z status.Done end rose within h = record { ends = (h.0, h.1, λ _. end); counts = rose; no_usage = λ e. cc }
 over_sink text n l0 l1 wb wn rb rn kb kn y z status.Usage end rose within h = cc
@@ -249,29 +248,29 @@ options_early o before after y s early h =
 
 -- a run whose tree was made
 pub options_made : (o : Choices) (e made : EngineState) (l0 l1 wb wn : Option (List ℕ)) (rb rn kb kn : ℕ) (y z : YardCounts) (s : Status)
-    → is_served o ≡ true → tree_publishes o.plan.builder (length e.bodies) ≡ length e.bodies → IsOpened o l0 l1 e → made ≡ with_tree e
-    → y.published ≤ 2 ^ 64 - 1 → y.changes ≤ 2 ^ 64 - 1 → RoseBy (length e.bodies) y z
-    → Ends (wanted_of_bodies (lines_text (engine_lines o.command made)) 0) (sink_port wb kb) (sink_port wn kn) s
+    → is_served o ≡ true → IsOpened o l0 l1 e → made ≡ with_tree e
+    → y.published ≤ 2 ^ 64 - 1 → y.changes ≤ 2 ^ 64 - 1 → Rises (builder_publishes e) y z
+    → Ends (wanted_of_bodies (lines_text (engine_lines o.command made)) no_publications) (sink_port wb kb) (sink_port wn kn) s
     → ServesOptions o (ports l0 rb wb kb) (ports l1 rn wn kn) y z s
 unfolding answers
-options_made o e made l0 l1 wb wn rb rn kb kn y z s served all has is published changes rose h =
-    let n = length e.bodies in
+options_made o e made l0 l1 wb wn rb rn kb kn y z s served has is published changes rose h =
+    let n = builder_publishes e in
     let text : lines_text (engine_lines o.command made) ≡ command_text o e.bodies =
     ap (λ x. lines_text (engine_lines o.command x)) is ∙ ap lines_text (engine_same o.command e)
     ∙ ap (λ x. lines_text (engine_lines o.command x)) has.engine in
     let same : wanted_of_bodies (lines_text (engine_lines o.command made)) n ≡ wanted (Some o) has.bytes =
-    ap (λ x. wanted_of_bodies x n) text ∙ ap (wanted_of_bodies (command_text o e.bodies)) (sym all) ∙ ap (wanted_of_scene o) (sym has.scene)
-    ∙ sym (wanted_is o has.bytes served) in
+    ap (λ x. wanted_of_bodies x n) text ∙ ap (λ (x : EngineState). wanted_of_bodies (command_text o e.bodies) (builder_publishes x)) has.engine
+    ∙ ap (wanted_of_scene o) (sym has.scene) ∙ sym (wanted_is o has.bytes served) in
     let P : Wanted → Type 0 = λ w. IsEnd w (ports l0 rb wb kb) (ports l1 rn wn kn) y z s in
     let end = subst P same
-    (over_sink (lines_text (engine_lines o.command made)) n l0 l1 wb wn rb rn kb kn y z s has.end rose (rose_within n y z published changes rose) h) in
+    (over_sink (lines_text (engine_lines o.command made)) n l0 l1 wb wn rb rn kb kn y z s has.end rose (rises_within n y z published changes rose) h) in
     record { answers = answers (Some o) has.bytes (ports l0 rb wb kb) (ports l1 rn wn kn) s has.told end.ends; counts = end.counts; no_usage = end.no_usage }
 
 -- ---- runs of words
 
 -- there are no options: the usage line, or a part of it
 pub serves_usage : (options : Option Choices) (before after : Ports) (locked free : YardCounts) (s : Status) → options ≡ None
-    → Ends (wanted None []) before after s → Counts 0 locked locked s → Serves options (world before locked free) (world after locked free) s
+    → Ends (wanted None []) before after s → Counts no_publications locked locked s → Serves options (world before locked free) (world after locked free) s
 serves_usage options before after locked free s none h counts =
     let P : Option Choices → Type 0 = λ o. Serves o (world before locked free) (world after locked free) s in
     subst P (sym none) (record {
@@ -284,7 +283,12 @@ serves_usage options before after locked free s none h counts =
 pub serves_memory : (options : Option Choices) (l : Option (List ℕ)) (r : ℕ) (wb : Option (List ℕ)) (k : ℕ) (locked free : YardCounts)
     → Serves options (world (ports l r wb k) locked free) (world (ports l r wb k) locked free) status.Memory
 serves_memory options l r wb k locked free =
-    record { answers = answers_memory options l l r r wb k k; counts = stayed _ _; other_yard = refl }
+    let read = answers_memory options l l r r wb k k in
+    record {
+      answers = read;
+      counts = stayed (wanted options read.bytes).publishes (yard_of (chosen_builder options) (world (ports l r wb k) locked free));
+      other_yard = refl;
+    }
 
 -- options with the builder ORIG
 pub serves_locked : (o : Choices) (before after : Ports) (y z free : YardCounts) (s : Status) → o.plan.builder ≡ builder.Orig
@@ -296,7 +300,7 @@ serves_locked o before after y z free s orig h =
     record { answers = h.answers; counts = subst own (sym orig) h.counts; other_yard = subst other (sym orig) refl }
 
 -- options with another builder
-unlocked : (b : Builder) (n : ℕ) (before after : World) (s : Status) → (b ≡ builder.Orig → ⊥) → Counts n before.free after.free s
+unlocked : (b : Builder) (n : Publications) (before after : World) (s : Status) → (b ≡ builder.Orig → ⊥) → Counts n before.free after.free s
     → after.locked ≡ before.locked → Counts n (yard_of b before) (yard_of b after) s × (other_yard_of b after ≡ other_yard_of b before)
 unlocked builder.Orig n before after s other counts same = absurd (other refl)
 unlocked builder.Local n before after s other counts same = (counts, same)

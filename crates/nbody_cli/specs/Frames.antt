@@ -1,26 +1,45 @@
 -- The lines of a frame.
-use Rattle.std.specs.Prelude.{ℕ, List, [], ◌∷◌, ◌++◌, codes, length, map}
+use Rattle.std.specs.Prelude.{ℕ, List, [], ◌∷◌, ◌++◌, Option, None, Some, codes, length, map}
 use Rattle.octant_code.specs.Space.{Site}
 use Rattle.octant_code.specs.Points.{site_at}
 use Rattle.bh_model.specs.Bodies.{numbers}
 use Rattle.bh_model.specs.Trees.{Tree, depth}
 use Rattle.bh_model.specs.Zones.{zone}
 use Rattle.bh_model.specs.declared.pull.Pull.{Pull}
-use Rattle.frame_core.specs.Engines.{EngineState, frame_of}
+use Rattle.frame_core.specs.Engines.{EngineState, builder_pieces, frame_of}
 use Rattle.frame_core.specs.Frames.{pull_on, tree_of_bodies}
 use Rattle.mass_moments.specs.Kept.{cost_at}
 use Rattle.nbody_cli.specs.Lines.{TextLine, TreeLine, Words, Word, Number, Numbers, Signed}
 use Rattle.probe.specs.Figures.{FrameFigures}
 use Rattle.scene_file.specs.Bodies.{sites_of}
 
--- the lines at the head of a frame: its number, its tree, how large that is, and the cost of all bodies and the greatest of a zone
-abbrev pub head_lines : Tree → FrameFigures → List TextLine
-head_lines tree f =
+-- the lines of a builder: that of the number of pieces, where it tells of any
+abbrev pub pieces_lines : Option ℕ → List TextLine
+pieces_lines None = []
+pieces_lines (Some count) = Words (codes "pieces") (Number count ∷ []) ∷ []
+
+abbrev pub builder_lines : EngineState → List TextLine
+builder_lines e = pieces_lines (builder_pieces e)
+
+-- the lines of a tree: its builder's behind its own
+abbrev pub tree_lines : EngineState → List TextLine
+tree_lines e = TreeLine (tree_of_bodies e.bodies) ∷ builder_lines e
+
+-- the first lines of a frame: its number, its tree, and how large that is
+abbrev pub size_lines : Tree → FrameFigures → List TextLine
+size_lines tree f =
     Words (codes "frame") (Number f.step ∷ [])
     ∷ TreeLine tree
     ∷ Words (codes "cells") (Number f.cells ∷ Word (codes "depth") ∷ Number (depth tree) ∷ [])
-    ∷ Words (codes "cost") (Number f.cost ∷ Word (codes "greatest") ∷ Number f.greatest ∷ [])
     ∷ []
+
+-- the line of the cost of all bodies and the greatest of a zone
+abbrev pub cost_line : FrameFigures → TextLine
+cost_line f = Words (codes "cost") (Number f.cost ∷ Word (codes "greatest") ∷ Number f.greatest ∷ [])
+
+-- the lines at the head of a frame: its first lines, those of the builder, and that of the cost
+abbrev pub head_lines : Tree → Option ℕ → FrameFigures → List TextLine
+head_lines tree pieces f = size_lines tree f ++ (pieces_lines pieces ++ (cost_line f ∷ []))
 
 -- the line of a worker's zone
 abbrev pub zone_line : ℕ → List ℕ → TextLine
@@ -49,4 +68,4 @@ body_lines e = map (body_line_of e) (numbers (length e.bodies))
 
 -- the lines of an engine's frame: its head, a line for each worker, and a line for each body
 abbrev pub frame_lines : EngineState → List TextLine
-frame_lines e = head_lines (tree_of_bodies e.bodies) (frame_of e) ++ (zone_lines e ++ body_lines e)
+frame_lines e = head_lines (tree_of_bodies e.bodies) (builder_pieces e) (frame_of e) ++ (zone_lines e ++ body_lines e)

@@ -4,8 +4,9 @@ use Rattle.std.specs.Io.KnownBytes.{IsAtEnd}
 use Rattle.bh_model.specs.declared.plan.Builder.{Builder}
 use Rattle.bh_model.specs.declared.plan.Builder.TheVariants as builder
 use Rattle.bh_outside.specs.Outside.{Rose, Took, TookPrefix}
-use Rattle.frame_core.specs.Engines.{EngineState, opened}
-use Rattle.shared_tree.specs.Seen.{YardCounts, risen}
+use Rattle.frame_core.specs.Building.{Publications, Rises, one_for_each}
+use Rattle.frame_core.specs.Engines.{EngineState, builder_publishes, opened}
+use Rattle.shared_tree.specs.Seen.{YardCounts}
 use Rattle.scene_file.specs.Scene.{scene_of}
 use Rattle.scene_file.specs.declared.bodies.Body.{Body}
 use Rattle.scene_file.specs.declared.fault.SceneFault.{SceneFault}
@@ -19,13 +20,13 @@ use Rattle.nbody_cli.specs.declared.status.Status.TheVariants as status
 
 -- ---- what is wanted
 
--- what is wanted of a run that meets no failure: the status that ends it, the text, whether the source is read to its end, and how many bodies the
--- trees that are made publish in the yard of their builder
+-- what is wanted of a run that meets no failure: the status that ends it, the text, whether the source is read to its end, and what the trees that are
+-- made publish in the yard of their builder
 pub record Wanted : Type 0 where
   pub status : Status
   pub text : List ℕ
   pub reads : Bool
-  pub publishes : ℕ
+  pub publishes : Publications
 
 -- a command reads the scene from the source, or makes it
 abbrev pub reads_source : Command → Bool
@@ -42,23 +43,21 @@ abbrev pub status_of_fault : SceneFault → Status
 status_of_fault fault.OutOfMemory = status.Memory
 status_of_fault _ = status.Scene
 
--- how many bodies a builder publishes in its yard for one tree of so many: ORIG and LOCAL each of them
-abbrev pub tree_publishes : Builder → ℕ → ℕ
-tree_publishes builder.Orig bodies = bodies
-tree_publishes builder.Local bodies = bodies
-tree_publishes _ bodies = 0
+-- what the options publish over a scene's bodies: they make one tree of these
+abbrev pub publishes : Choices → List Body → Publications
+publishes o bodies = builder_publishes (opened o.plan bodies)
 
--- how many the options publish over a scene's bodies: they make one tree of these
-abbrev pub publishes : Choices → List Body → ℕ
-publishes o bodies = tree_publishes o.plan.builder (length bodies)
+-- nothing is published where no tree is made
+abbrev pub no_publications : Publications
+no_publications = one_for_each 0
 
--- the text of a command over the bodies of the source's scene, and how many bodies it publishes
-abbrev pub wanted_of_bodies : List ℕ → ℕ → Wanted
+-- the text of a command over the bodies of the source's scene, and what it publishes
+abbrev pub wanted_of_bodies : List ℕ → Publications → Wanted
 wanted_of_bodies text published = record { status = status.Done; text = text; reads = true; publishes = published }
 
 -- the line of the first fault of the source's scene
 abbrev pub wanted_of_fault : SceneFault → Wanted
-wanted_of_fault f = record { status = status_of_fault f; text = refused_line f; reads = true; publishes = 0 }
+wanted_of_fault f = record { status = status_of_fault f; text = refused_line f; reads = true; publishes = no_publications }
 
 -- what is wanted of a command that reads the source, by the source's scene: its text over the bodies, or the line of the first fault
 abbrev pub wanted_of_scene : Choices → Result (List Body) SceneFault → Wanted
@@ -67,7 +66,7 @@ wanted_of_scene o (Err f) = wanted_of_fault f
 
 -- what is wanted, by the options and the bytes of the source: without options it is the usage line
 abbrev pub wanted : Option Choices → List ℕ → Wanted
-wanted None bytes = record { status = status.Usage; text = usage_line; reads = false; publishes = 0 }
+wanted None bytes = record { status = status.Usage; text = usage_line; reads = false; publishes = no_publications }
 wanted (Some o) bytes =
     if reads_source o.command then wanted_of_scene o (scene_of bytes)
     else record { status = status.Done; text = command_text o []; reads = false; publishes = publishes o [] }
@@ -118,22 +117,19 @@ pub record Answers (options : Option Choices) (before after : Ports) (answer : S
 
 -- ---- what the yards count
 
--- both counts rose by so many, up to the greatest number of 64 bits
-abbrev pub RoseBy : ℕ → (before after : YardCounts) → Type 0
-RoseBy n before after = (after.published ≡ risen before.published n) × (after.changes ≡ risen before.changes n)
+-- no count fell, and none rose by more than the publications of a tree say
+abbrev pub RisesAtMost : Publications → (before after : YardCounts) → Type 0
+RisesAtMost p before after =
+    (before.published ≤ after.published) × (after.published ≤ before.published + p.bodies)
+    × (before.changes ≤ after.changes) × (after.changes ≤ before.changes + p.most)
 
--- no count fell, and none rose by more than so many
-abbrev pub RoseAtMost : ℕ → (before after : YardCounts) → Type 0
-RoseAtMost n before after =
-    (before.published ≤ after.published) × (after.published ≤ before.published + n) × (before.changes ≤ after.changes) × (after.changes ≤ before.changes + n)
-
--- How the counts of a yard stand at the end of a run whose trees publish so many bodies in it: at Done they rose by just so many, at Write and at Memory
--- by no more, and else they are as they were.
-abbrev pub Counts : ℕ → (before after : YardCounts) → Status → Type 0
-Counts n before after status.Done = RoseBy n before after
-Counts n before after status.Write = RoseAtMost n before after
-Counts n before after status.Memory = RoseAtMost n before after
-Counts n before after _ = after ≡ before
+-- How the counts of a yard stand at the end of a run whose trees publish in it: at Done they rose as that says, at Write and at Memory by no more, and
+-- else they are as they were.
+abbrev pub Counts : Publications → (before after : YardCounts) → Status → Type 0
+Counts p before after status.Done = Rises p before after
+Counts p before after status.Write = RisesAtMost p before after
+Counts p before after status.Memory = RisesAtMost p before after
+Counts p before after _ = after ≡ before
 
 -- the builder of the options, and the default one where there are none: nothing is built then
 abbrev pub chosen_builder : Option Choices → Builder

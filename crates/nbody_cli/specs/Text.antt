@@ -1,9 +1,8 @@
 -- What the program writes.
 use Rattle.std.specs.Prelude.{ℕ, List, [], ◌∷◌, codes}
 use Rattle.frame_core.specs.Engines.{EngineState, opened}
-use Rattle.frame_core.specs.Frames.{tree_of_bodies}
-use Rattle.nbody_cli.specs.Frames.{frame_lines}
-use Rattle.nbody_cli.specs.Lines.{TextLine, TreeLine, Words, LineItem, Word, Number, lines_text}
+use Rattle.nbody_cli.specs.Frames.{frame_lines, tree_lines}
+use Rattle.nbody_cli.specs.Lines.{TextLine, Words, LineItem, Word, Number, lines_text}
 use Rattle.nbody_options.specs.Choices.{Choices}
 use Rattle.nbody_options.specs.declared.options.Command.{Command}
 use Rattle.nbody_options.specs.declared.options.Command.TheVariants as command
@@ -32,7 +31,7 @@ usage_line = codes "usage: nbody tree|passes|run|trial [--builder orig|local|upd
 
 -- the lines of a command by the engine that has its tree; the commands that are not served have none
 abbrev pub engine_lines : Command → EngineState → List TextLine
-engine_lines command.Tree e = TreeLine (tree_of_bodies e.bodies) ∷ []
+engine_lines command.Tree e = tree_lines e
 engine_lines command.Run e = frame_lines e
 engine_lines command.Passes e = []
 engine_lines command.Trial e = []

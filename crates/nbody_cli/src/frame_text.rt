@@ -1,15 +1,15 @@
 //! The lines of a frame.
 
-ghost use Rattle.std.specs.Prelude.{◌≡◌, ◌++◌, length};
+ghost use Rattle.std.specs.Prelude.{◌≡◌, [], ◌∷◌, ◌++◌, length};
 ghost use Rattle.bh_model.specs.Trees.{depth};
 ghost use Rattle.bh_outside.specs.Outside.{HasCause, Writes};
 ghost use Rattle.bh_outside.specs.Text.{Puts};
-ghost use Rattle.frame_core.specs.Engines.{WithFrame, frame_of};
-ghost use Rattle.nbody_cli.specs.Frames.{body_line, body_lines, frame_lines, head_lines, zone_line, zone_lines};
+ghost use Rattle.frame_core.specs.Engines.{WithFrame, WithTree, frame_of};
+ghost use Rattle.nbody_cli.specs.Frames.{body_line, body_lines, cost_line, frame_lines, head_lines, pieces_lines, size_lines, tree_lines, zone_line, zone_lines};
 ghost use Rattle.nbody_cli.specs.Lines.{line_text, lines_text};
 ghost use Rattle.octree.specs.Stored.{tree_of};
 
-use crate::lines::{Item, Line, put_line};
+use crate::lines::{Item, Line, put_line, put_lines};
 use bh_model::Pull;
 use bh_outside::{Failed, Sink, TextBuffer};
 use frame_core::Engine;
@@ -17,8 +17,8 @@ use octant_code::Point;
 use octree::Octree;
 use probe::Frame;
 
-/// Puts the lines at the head of a frame whose tree is so deep.
-fn put_head<K: Sink>(
+/// Puts the first lines of a frame whose tree is so deep: its number, its tree, and how large that is.
+fn put_size<K: Sink>(
     tree: &Octree,
     levels: u32,
     frame: &Frame,
@@ -26,7 +26,7 @@ fn put_head<K: Sink>(
     sink: &mut K,
 ) -> Result<(), Failed>
     requires { levels ≡ depth (tree_of tree.now) }
-    ensures text { Puts (K.written sink.old) (K.written sink.new) buffer.old buffer.new (lines_text (head_lines (tree_of tree.now) frame.now)) result }
+    ensures text { Puts (K.written sink.old) (K.written sink.new) buffer.old buffer.new (lines_text (size_lines (tree_of tree.now) frame.now)) result }
     ensures cause { HasCause (K.faults sink.old) (K.faults sink.new) result }
 {
     let step = [Item::Number(frame.step as u64)];
@@ -37,13 +37,61 @@ fn put_head<K: Sink>(
         Item::Word(b"depth"),
         Item::Number(levels as u64),
     ];
-    put_line(&Line::Words(b"cells", &size), buffer, sink)?;
+    put_line(&Line::Words(b"cells", &size), buffer, sink)
+}
+
+/// Puts the line of the number of pieces, where the builder tells of any.
+fn put_pieces<K: Sink>(
+    pieces: Option<u32>,
+    buffer: &mut TextBuffer,
+    sink: &mut K,
+) -> Result<(), Failed>
+    ensures text { Puts (K.written sink.old) (K.written sink.new) buffer.old buffer.new (lines_text (pieces_lines pieces)) result }
+    ensures cause { HasCause (K.faults sink.old) (K.faults sink.new) result }
+{
+    match pieces {
+        Some(count) => {
+            let count = [Item::Number(count as u64)];
+            put_lines(&[Line::Words(b"pieces", &count)], buffer, sink)
+        }
+        None => put_lines(&[], buffer, sink),
+    }
+}
+
+/// Puts the lines of a builder, and that of the cost of all bodies and the greatest of a zone.
+fn put_costs<K: Sink>(
+    pieces: Option<u32>,
+    frame: &Frame,
+    buffer: &mut TextBuffer,
+    sink: &mut K,
+) -> Result<(), Failed>
+    ensures text { Puts (K.written sink.old) (K.written sink.new) buffer.old buffer.new (lines_text (pieces_lines pieces ++ (cost_line frame.now ∷ []))) result }
+    ensures cause { HasCause (K.faults sink.old) (K.faults sink.new) result }
+{
+    put_pieces(pieces, buffer, sink)?;
     let cost = [
         Item::Number(frame.cost),
         Item::Word(b"greatest"),
         Item::Number(frame.greatest),
     ];
-    put_line(&Line::Words(b"cost", &cost), buffer, sink)
+    put_lines(&[Line::Words(b"cost", &cost)], buffer, sink)
+}
+
+/// Puts the lines at the head of a frame whose tree is so deep.
+fn put_head<K: Sink>(
+    tree: &Octree,
+    levels: u32,
+    pieces: Option<u32>,
+    frame: &Frame,
+    buffer: &mut TextBuffer,
+    sink: &mut K,
+) -> Result<(), Failed>
+    requires { levels ≡ depth (tree_of tree.now) }
+    ensures text { Puts (K.written sink.old) (K.written sink.new) buffer.old buffer.new (lines_text (head_lines (tree_of tree.now) pieces frame.now)) result }
+    ensures cause { HasCause (K.faults sink.old) (K.faults sink.new) result }
+{
+    put_size(tree, levels, frame, buffer, sink)?;
+    put_costs(pieces, frame, buffer, sink)
 }
 
 /// Puts the line of a worker's zone.
@@ -152,7 +200,8 @@ fn put_frame<K: Sink>(
     ensures text { Puts (K.written sink.old) (K.written sink.new) buffer.old buffer.new (lines_text (frame_lines engine.now)) result }
     ensures cause { HasCause (K.faults sink.old) (K.faults sink.new) result }
 {
-    put_head(engine.octree(), engine.depth(), frame, buffer, sink)?;
+    let tree = engine.octree();
+    put_head(tree, engine.depth(), engine.pieces(), frame, buffer, sink)?;
     put_rows(engine, frame.bodies, buffer, sink)
 }
 
@@ -165,5 +214,26 @@ pub fn write_frame<K: Sink>(sink: &mut K, engine: &Engine, frame: &Frame) -> Res
 {
     let mut buffer = TextBuffer::new();
     put_frame(engine, frame, &mut buffer, sink)?;
+    buffer.finish(sink)
+}
+
+/// Puts the lines of the tree of an engine.
+fn put_tree<K: Sink>(engine: &Engine, buffer: &mut TextBuffer, sink: &mut K) -> Result<(), Failed>
+    requires { engine.now.stage ≡ WithTree }
+    ensures text { Puts (K.written sink.old) (K.written sink.new) buffer.old buffer.new (lines_text (tree_lines engine.now)) result }
+    ensures cause { HasCause (K.faults sink.old) (K.faults sink.new) result }
+{
+    put_line(&Line::Tree(engine.octree()), buffer, sink)?;
+    put_pieces(engine.pieces(), buffer, sink)
+}
+
+/// Writes the lines of the tree of an engine.
+pub fn write_tree<K: Sink>(sink: &mut K, engine: &Engine) -> Result<(), Failed>
+    requires { engine.now.stage ≡ WithTree }
+    ensures text { Writes (K.written sink.old) (K.written sink.new) (lines_text (tree_lines engine.now)) result }
+    ensures cause { HasCause (K.faults sink.old) (K.faults sink.new) result }
+{
+    let mut buffer = TextBuffer::new();
+    put_tree(engine, &mut buffer, sink)?;
     buffer.finish(sink)
 }

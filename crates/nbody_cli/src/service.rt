@@ -4,17 +4,15 @@ ghost use Rattle.std.specs.Prelude.{◌≡◌, [], ◌∷◌, IfErr, IfOk, IsFal
 ghost use Rattle.bh_model.specs.declared.plan.Builder.TheVariants.{Orig};
 ghost use Rattle.bh_outside.specs.Outside.{KeepsSure};
 ghost use Rattle.frame_core.specs.Engines.{WithTree, opened};
-ghost use Rattle.frame_core.specs.Frames.{tree_of_bodies};
 ghost use Rattle.scene_file.specs.Scene.{scene_of};
 ghost use Rattle.scene_file.specs.declared.fault.SceneFault.TheVariants.{OutOfMemory};
-ghost use Rattle.nbody_cli.specs.Frames.{frame_lines};
-ghost use Rattle.nbody_cli.specs.Lines.{TreeLine, lines_text};
-ghost use Rattle.nbody_cli.specs.Serving.{Answers, Ends, IsEarly, IsOpened, Serves, ServesOptions, needs_source, ports, sink_port, wanted_of_bodies, wanted_of_fault, wanted_of_scene, world};
+ghost use Rattle.nbody_cli.specs.Frames.{frame_lines, tree_lines};
+ghost use Rattle.nbody_cli.specs.Lines.{lines_text};
+ghost use Rattle.nbody_cli.specs.Serving.{Answers, Ends, IsEarly, IsOpened, Serves, ServesOptions, needs_source, no_publications, ports, sink_port, wanted_of_bodies, wanted_of_fault, wanted_of_scene, world};
 ghost use Rattle.nbody_cli.specs.Text.{engine_lines};
 ghost use Rattle.nbody_options.specs.Options.{is_served, options_of, serves_command};
 
-use crate::frame_text::write_frame;
-use crate::lines::{Line, write_lines};
+use crate::frame_text::{write_frame, write_tree};
 use crate::status::Status;
 use crate::text::{write_refused, write_usage};
 use bh_model::Builder;
@@ -32,7 +30,7 @@ use std::thread::Threads;
 /// Writes the frame of an engine whose bodies have their tree.
 fn answer_run<R, K: Sink>(rt: &R, engine: &mut Engine, sink: &mut K) -> Status
     requires { engine.old.stage ≡ WithTree }
-    ensures { Ends (wanted_of_bodies (lines_text (frame_lines engine.old)) 0) (sink_port (K.written sink.old) (K.faults sink.old)) (sink_port (K.written sink.new) (K.faults sink.new)) result }
+    ensures { Ends (wanted_of_bodies (lines_text (frame_lines engine.old)) no_publications) (sink_port (K.written sink.old) (K.faults sink.old)) (sink_port (K.written sink.new) (K.faults sink.new)) result }
 {
     match engine.frame(rt) {
         Ok(frame) => match write_frame(sink, engine, &frame) {
@@ -43,12 +41,12 @@ fn answer_run<R, K: Sink>(rt: &R, engine: &mut Engine, sink: &mut K) -> Status
     }
 }
 
-/// Writes the line of the tree of an engine.
+/// Writes the lines of the tree of an engine.
 fn answer_tree<K: Sink>(engine: &Engine, sink: &mut K) -> Status
     requires { engine.now.stage ≡ WithTree }
-    ensures { Ends (wanted_of_bodies (lines_text (TreeLine (tree_of_bodies engine.now.bodies) ∷ [])) 0) (sink_port (K.written sink.old) (K.faults sink.old)) (sink_port (K.written sink.new) (K.faults sink.new)) result }
+    ensures { Ends (wanted_of_bodies (lines_text (tree_lines engine.now)) no_publications) (sink_port (K.written sink.old) (K.faults sink.old)) (sink_port (K.written sink.new) (K.faults sink.new)) result }
 {
-    match write_lines(sink, &[Line::Tree(engine.octree())]) {
+    match write_tree(sink, engine) {
         Ok(()) => Status::Done,
         Err(_) => Status::Write,
     }
@@ -58,7 +56,7 @@ fn answer_tree<K: Sink>(engine: &Engine, sink: &mut K) -> Status
 fn answer<R, K: Sink>(rt: &R, command: Command, engine: &mut Engine, sink: &mut K) -> Status
     requires tree { engine.old.stage ≡ WithTree }
     requires served { serves_command command ≡ true }
-    ensures { Ends (wanted_of_bodies (lines_text (engine_lines command engine.old)) 0) (sink_port (K.written sink.old) (K.faults sink.old)) (sink_port (K.written sink.new) (K.faults sink.new)) result }
+    ensures { Ends (wanted_of_bodies (lines_text (engine_lines command engine.old)) no_publications) (sink_port (K.written sink.old) (K.faults sink.old)) (sink_port (K.written sink.new) (K.faults sink.new)) result }
 {
     match command {
         Command::Tree => answer_tree(engine, sink),

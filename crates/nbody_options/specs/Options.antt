@@ -135,6 +135,8 @@ serves_command _ = false
 abbrev pub serves_builder : Builder → Bool
 serves_builder builder.Orig = true
 serves_builder builder.Local = true
+serves_builder builder.Partree = true
+serves_builder builder.Space = true
 serves_builder _ = false
 
 -- the probes that are served
@@ -142,7 +144,7 @@ abbrev pub serves_probe : ProbeChoice → Bool
 serves_probe probe.Nobody = true
 serves_probe _ = false
 
--- the program serves the choices: the commands `tree` and `run`, the builders `orig` and `local`, one step, and no probe
+-- the program serves the choices: the commands `tree` and `run`, every builder but `update`, one step, and no probe
 abbrev pub is_served : Choices → Bool
 is_served c = serves_command c.command && (serves_builder c.plan.builder && (c.steps == 1 && serves_probe c.probe))
 

@@ -66,7 +66,10 @@ fn is_served(options: &Options) -> bool
     ensures { result ≡ is_served options.now }
 {
     matches!(options.command, Command::Tree | Command::Run)
-        && matches!(options.plan.builder, Builder::Orig | Builder::Local)
+        && matches!(
+            options.plan.builder,
+            Builder::Orig | Builder::Local | Builder::Partree | Builder::Space
+        )
         && options.steps == 1
         && matches!(options.probe, ProbeChoice::Nobody)
 }

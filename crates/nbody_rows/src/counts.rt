@@ -35,7 +35,7 @@ fn counts<R: Abort + AllocGlobal + Threads + Wait + Sync>(
 
 #[test]
 fn bodies_are_counted_at_the_end(rt: HostRuntime) -> Result<(), Fail> {
-    let rows: [(&str, &[u8], Status, Bodies); 8] = [
+    let rows: [(&str, &[u8], Status, Bodies); 9] = [
         ("tree", b"", Status::Done, (0, 0)),
         ("tree", PAIR, Status::Done, (2, 0)),
         ("run --workers 3", PAIR, Status::Done, (2, 0)),
@@ -46,12 +46,31 @@ fn bodies_are_counted_at_the_end(rt: HostRuntime) -> Result<(), Fail> {
             Status::Done,
             (0, 2),
         ),
+        ("run --builder space", PAIR, Status::Done, (0, 0)),
         ("walk", PAIR, Status::Usage, (0, 0)),
         ("tree", b"star\n", Status::Scene, (0, 0)),
         ("tree --builder local", b"star\n", Status::Scene, (0, 0)),
     ];
     for (line, scene, status, bodies) in rows {
         counts(&rt, line, scene, &sure_ends(1000), status, bodies)?;
+    }
+    Ok(())
+}
+
+#[test]
+fn one_worker_of_partree_publishes_once(rt: HostRuntime) -> Result<(), Fail> {
+    let rows: [(&[u8], u64, u64); 2] = [(b"", 0, 0), (PAIR, 2, 1)];
+    for (scene, bodies, changes) in rows {
+        let ran = run_at(
+            &rt,
+            "tree --builder partree",
+            scene,
+            &sure_ends(100),
+            &OpenGate,
+        )?;
+        assert_eq!(rt; ran.status, Status::Done);
+        assert_eq!(rt; ran.free.published, bodies);
+        assert_eq!(rt; ran.free.changes, changes);
     }
     Ok(())
 }

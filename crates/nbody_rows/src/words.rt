@@ -81,7 +81,7 @@ fn what_is_not_served_is_refused(rt: HostRuntime) -> Result<(), Fail> {
     let rows: [&[&str]; 5] = [
         &["trial"],
         &["run", "--steps", "2"],
-        &["tree", "--builder", "partree"],
+        &["tree", "--builder", "update"],
         &["tree", "--steps", "2"],
         &["tree", "--probe", "all"],
     ];
@@ -93,9 +93,11 @@ fn what_is_not_served_is_refused(rt: HostRuntime) -> Result<(), Fail> {
 
 #[test]
 fn options_that_a_command_does_not_use_are_served(rt: HostRuntime) -> Result<(), Fail> {
-    let rows: [&[&str]; 3] = [
+    let rows: [&[&str]; 5] = [
         &["run", "--workers", "3"],
         &["tree", "--builder", "local"],
+        &["tree", "--builder", "partree"],
+        &["run", "--builder", "space"],
         &[
             "tree",
             "--builder=orig",

@@ -47,7 +47,7 @@ fn is_common<R: Abort + AllocGlobal + Threads + Wait + Sync>(
 ) -> Result<(), Fail> {
     let alone = lines_with(rt, line, scene, "orig", 1)?;
     assert!(rt; alone.starts_with(b"tree "));
-    for builder in ["orig", "local"] {
+    for builder in ["orig", "local", "partree", "space"] {
         for workers in [1, 3, 8, 64] {
             let together = lines_with(rt, line, scene, builder, workers)?;
             assert!(rt;
@@ -105,6 +105,12 @@ fn two_workers_meet(rt: HostRuntime) -> Result<(), Fail> {
     let local = meet(&rt, "tree --builder local --workers 2")?;
     assert_eq!(rt; local.free.published, 64);
     assert_eq!(rt; local.text.as_slice(), orig.text.as_slice());
+    let partree = meet(&rt, "tree --builder partree --workers 2")?;
+    assert_eq!(rt; partree.free.published, 64);
+    assert_eq!(rt; partree.text.as_slice(), orig.text.as_slice());
+    let space = meet(&rt, "tree --builder space --workers 2")?;
+    assert_eq!(rt; space.free.changes, 0);
+    assert!(rt; space.text.as_slice().starts_with(&orig.text));
     Ok(())
 }
 

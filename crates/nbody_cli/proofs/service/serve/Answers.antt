@@ -4,6 +4,7 @@ use Rattle.bh_model.specs.declared.plan.Builder.TheVariants.{Orig}
 use Rattle.nbody_options.proofs.Served.{options_are_served}
 use Rattle.nbody_options.specs.Options.{options_of}
 use Rattle.nbody_cli.proofs.Serving.{needs, serves_locked, serves_memory, serves_unlocked, serves_usage, stayed}
+use Rattle.nbody_cli.specs.Serving.{no_publications}
 use Rattle.nbody_cli.specs.declared.status.Status.TheVariants as status
 use Rattle.nbody_cli.proofs.service.serve.Goals as goal
 
@@ -45,4 +46,4 @@ returns-in-Ok-write_usage-clause-serves g c =
 pub returns-in-Err-clause-serves : goal.returns-in-Err-clause-serves
 returns-in-Err-clause-serves g c =
     serves_usage (options_of (map string_bytes c.args.words.now)) _ _ c.args.locked.now c.args.free.now status.Write
-    (rw c.in-Err-Usage.field-0-is at c.in-Err-Usage.ensures) (c.in-Err.ensures.cause.failed, c.in-Err.ensures.text) (stayed 0 c.args.locked.now)
+    (rw c.in-Err-Usage.field-0-is at c.in-Err-Usage.ensures) (c.in-Err.ensures.cause.failed, c.in-Err.ensures.text) (stayed no_publications c.args.locked.now)

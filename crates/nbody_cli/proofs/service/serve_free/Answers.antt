@@ -1,16 +1,20 @@
-use Rattle.std.proofs.Common.{◌≡◌, Some, ap, arith, length}
+use Rattle.std.proofs.Common.{◌≡◌, Some, ap, arith}
 use Rattle.nbody_options.specs.Choices.{Choices}
-use Rattle.nbody_cli.proofs.Serving.{answers_memory, options_early, options_made, published_free}
+use Rattle.nbody_cli.proofs.Serving.{answers_memory, is_free, options_early, options_made}
 use Rattle.nbody_cli.proofs.service.serve_free.Goals as goal
+
+pub tree_free-requires-clause-builder : goal.tree_free-requires-clause-builder
+tree_free-requires-clause-builder g c κs within =
+    is_free c.args.options.now c.in-Ok.engine c.requires.served c.requires.builder c.in-Ok.ensures.opened.engine
 
 pub returns-in-Ok-tree_free-clause-serves : goal.returns-in-Ok-tree_free-clause-serves
 returns-in-Ok-tree_free-clause-serves g c =
     let named : c.options.inside.command ≡ c.args.options.now.command = ap (λ (o : Choices). o.command) c.options.view_is in
-    options_made c.args.options.now c.in-Ok.engine c.tree_free.new.self _ _ _ _ _ _ _ _ c.args.free.now c.tree_free.new.free c.answer.result c.requires.served
-    (published_free c.args.options.now c.requires.served c.requires.builder (length c.in-Ok.engine.bodies)) c.in-Ok.ensures.opened c.in-Ok-tree_free.ensures.made
+    options_made c.args.options.now c.in-Ok.engine c.tree_free.new.self _ _ _ _ _ _ _ _ c.args.free.now c.tree_free.new.free c.answer.result
+    c.requires.served c.in-Ok.ensures.opened c.in-Ok-tree_free.ensures.made
     (omega (arith, c.published-published.type_inv, c.published-published.ensures))
-    (omega (arith, c.changes-changes.type_inv, c.changes-changes.ensures))
-    (c.in-Ok-tree_free.ensures.published, c.in-Ok-tree_free.ensures.changes) (rw c.in-Ok.ensures.silent at (rw named at c.answer.ensures))
+    (omega (arith, c.changes-changes.type_inv, c.changes-changes.ensures)) c.in-Ok-tree_free.ensures.counts
+    (rw c.in-Ok.ensures.silent at (rw named at c.answer.ensures))
 
 pub returns-clause-serves : goal.returns-clause-serves
 returns-clause-serves g c =

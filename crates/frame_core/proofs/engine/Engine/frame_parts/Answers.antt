@@ -28,6 +28,11 @@ zones-requires-clause-costs_of_bodies g c n b =
     c.octree-tree.ensures in
     omega (arith, body_within i.bodies c.octree-tree.result.now n octree b, c.self.invariant.one_cost_each, ap length c.as_slice-costs.ensures.value)
 
+pub pulls-requires-clause-octree : goal.pulls-requires-clause-octree
+pulls-requires-clause-octree g c =
+    octree_of_stage c.self.inside c.args.self.now c.in-Some.kept c.octree-tree.result.now c.self.view_is c.self.invariant c.requires c.in-Some.is
+    c.octree-tree.ensures
+
 pub pulls-requires-clause-inside : goal.pulls-requires-clause-inside
 pulls-requires-clause-inside g c =
     let i = c.self.inside in
