@@ -5,10 +5,10 @@
 //! It reads a scene, builds the octree of its bodies in rounds, and tells on standard error the times in
 //! nanoseconds, each on a line with its name. In each round come, one after another, `Octree::of_points`
 //! (`sorted`), insertion by one thread in the order of the bodies' numbers (`plain`), and the builders
-//! ORIG and LOCAL (`orig` and `local`) with 1 to 4 workers, whose shares are those of the first frame. A
-//! builder's phases are `open`, up to the first worker's start, `insert`, up to the last worker's end,
-//! and `close`, in which the workers are joined and the yard is closed; `free` is the time to give its
-//! octree back. Each is the least of all rounds, but the `first` ones, which are those of the process's
+//! ORIG, LOCAL, PARTREE and SPACE (`orig`, `local`, `partree` and `space`) with 1 to 4 workers, whose
+//! shares are those of the first frame. A builder's phases are `open`, up to the first worker's start,
+//! `insert`, up to the last worker's end, and `close`, in which the workers are joined and the yard is
+//! closed, or the parts are put together; `free` is the time to give its octree back. Each is the least of all rounds, but the `first` ones, which are those of the process's
 //! first tree, by one worker of ORIG. With other words it tells nothing.
 #![tactic(auto)]
 
@@ -18,7 +18,7 @@ mod one_thread;
 ghost use Rattle.bh_model.specs.Plans.{HasWorkers};
 
 use bh_outside::{Input, StdSource, read_all};
-use frame_core::first_shares;
+use frame_core::{Builder, first_shares};
 use free_tree::FreeYard;
 use gate::NotingGate;
 use locked_tree::LockedYard;
@@ -61,6 +61,8 @@ struct Round {
     plain: u64,
     orig: ByWorkers,
     local: ByWorkers,
+    partree: ByWorkers,
+    space: ByWorkers,
 }
 
 impl Phases {
@@ -95,6 +97,8 @@ impl Round {
             plain: self.plain.min(other.plain),
             orig: self.orig.least(other.orig),
             local: self.local.least(other.local),
+            partree: self.partree.least(other.partree),
+            space: self.space.least(other.space),
         }
     }
 }
@@ -115,44 +119,49 @@ fn phases_of<R: Clock>(gate: &NotingGate<'_, R>, built: u64, freed: u64) -> Phas
     }
 }
 
-/// The times of the phases of one build by so many workers of ORIG.
-fn time_orig<R: Clock + Threads + Wait + Sync>(
+/// The times of the phases of one build by so many workers of a builder. UPDATE makes a first tree as
+/// LOCAL does.
+fn time_builder<R: Clock + Threads + Wait + Sync>(
     rt: &R,
     alloc: Global,
     points: &Arc<Points>,
+    builder: Builder,
     workers: u32,
 ) -> anyhow::Result<Phases>
     requires { HasWorkers workers }
 {
     let shares = first_shares(alloc, workers, points.len())?;
-    let mut yard = LockedYard::new();
+    let mut locked = LockedYard::new();
+    let mut free = FreeYard::new();
     let start = Instant::now(rt)?;
     let gate = NotingGate::new(rt, start);
-    let tree = orig_build::build(rt, alloc, &mut yard, points, &shares, &gate)?;
+    let tree = match builder {
+        Builder::Orig => orig_build::build(rt, alloc, &mut locked, points, &shares, &gate)?,
+        Builder::Local | Builder::Update => {
+            local_build::build(rt, alloc, &mut free, points, &shares, &gate)?
+        }
+        Builder::Partree => partree_merge::build(rt, alloc, &mut free, points, &shares, &gate)?,
+        Builder::Space => space_split::build(rt, alloc, points, workers, &gate)?,
+    };
     let built = since(rt, start)?;
     drop(tree);
     let freed = since(rt, start)?;
     Ok(phases_of(&gate, built, freed))
 }
 
-/// The times of the phases of one build by so many workers of LOCAL.
-fn time_local<R: Clock + Threads + Sync>(
+/// The times of a builder's phases with 1 to 4 workers.
+fn time_workers<R: Clock + Threads + Wait + Sync>(
     rt: &R,
     alloc: Global,
     points: &Arc<Points>,
-    workers: u32,
-) -> anyhow::Result<Phases>
-    requires { HasWorkers workers }
-{
-    let shares = first_shares(alloc, workers, points.len())?;
-    let mut yard = FreeYard::new();
-    let start = Instant::now(rt)?;
-    let gate = NotingGate::new(rt, start);
-    let tree = local_build::build(rt, alloc, &mut yard, points, &shares, &gate)?;
-    let built = since(rt, start)?;
-    drop(tree);
-    let freed = since(rt, start)?;
-    Ok(phases_of(&gate, built, freed))
+    builder: Builder,
+) -> anyhow::Result<ByWorkers> {
+    Ok(ByWorkers {
+        one: time_builder(rt, alloc, points, builder, 1)?,
+        two: time_builder(rt, alloc, points, builder, 2)?,
+        three: time_builder(rt, alloc, points, builder, 3)?,
+        four: time_builder(rt, alloc, points, builder, 4)?,
+    })
 }
 
 /// The times of one round.
@@ -172,18 +181,10 @@ fn time_round<R: Clock + Threads + Wait + Sync>(
     Ok(Round {
         sorted,
         plain,
-        orig: ByWorkers {
-            one: time_orig(rt, alloc, points, 1)?,
-            two: time_orig(rt, alloc, points, 2)?,
-            three: time_orig(rt, alloc, points, 3)?,
-            four: time_orig(rt, alloc, points, 4)?,
-        },
-        local: ByWorkers {
-            one: time_local(rt, alloc, points, 1)?,
-            two: time_local(rt, alloc, points, 2)?,
-            three: time_local(rt, alloc, points, 3)?,
-            four: time_local(rt, alloc, points, 4)?,
-        },
+        orig: time_workers(rt, alloc, points, Builder::Orig)?,
+        local: time_workers(rt, alloc, points, Builder::Local)?,
+        partree: time_workers(rt, alloc, points, Builder::Partree)?,
+        space: time_workers(rt, alloc, points, Builder::Space)?,
     })
 }
 
@@ -194,7 +195,7 @@ fn times_of<R: Clock + Threads + Wait + Sync>(
     points: &Arc<Points>,
     rounds: u32,
 ) -> anyhow::Result<(Phases, Round)> {
-    let first = time_orig(rt, alloc, points, 1)?;
+    let first = time_builder(rt, alloc, points, Builder::Orig, 1)?;
     let mut least = time_round(rt, alloc, points)?;
     for _ in 1..rounds {
         least = least.least(time_round(rt, alloc, points)?);
@@ -235,6 +236,14 @@ fn main(rt: HostRuntime) -> anyhow::Result<()> {
         ("local.2", least.local.two),
         ("local.3", least.local.three),
         ("local.4", least.local.four),
+        ("partree.1", least.partree.one),
+        ("partree.2", least.partree.two),
+        ("partree.3", least.partree.three),
+        ("partree.4", least.partree.four),
+        ("space.1", least.space.one),
+        ("space.2", least.space.two),
+        ("space.3", least.space.three),
+        ("space.4", least.space.four),
     ] {
         eprintln!(rt; "{name}.open {}", phases.open)?;
         eprintln!(rt; "{name}.insert {}", phases.insert)?;

@@ -13,6 +13,7 @@ use Rattle.shared_tree.specs.Seen.{entrusted, PassState, SharedTree}
 use Rattle.build_workers.specs.Shares.{owned, times_in_all, AreShares}
 use Rattle.build_workers.specs.Working.{one_for_each, HasPutShares, IsSumFor}
 use Rattle.build_workers.proofs.Sharing.{each_of_numbers, shares_part}
+pub use Rattle.build_workers.proofs.Sharing.{part_of_all, shares_within}
 
 -- which is the worker's, or is not
 module _ (own : ℕ → ℕ) (n w : ℕ) where

@@ -1,3 +1,4 @@
+mod Ordering
 mod Sharing
 mod Dealing
 mod Taken

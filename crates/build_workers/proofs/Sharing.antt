@@ -1,11 +1,12 @@
 -- Counting over shares and workers.
-use Rattle.std.proofs.Common.{◌≡◌, ◌<◌, ◌≤◌, ℕ, List, inl, inr, sym, ◌∙◌, arith}
+use Rattle.std.proofs.Common.{◌≡◌, ◌<◌, ◌≤◌, ℕ, zero, suc, All, List, [], ◌∷◌, get_or, length, map, inl, inr, sym, ◌∙◌, arith}
 use Rattle.std.proofs.lemmas.Bool.{cases_lt}
 use Rattle.bh_model.specs.Bodies.{numbers}
 use Rattle.bh_model.proofs.Lists.{in_numbers, numbers_once}
 use Rattle.tree_passes.specs.Counting.{times}
 use Rattle.tree_passes.proofs.Laws.{in_times, once_times, times_in}
 use Rattle.build_workers.specs.Shares.{times_in_all, AreShares}
+use Rattle.build_workers.proofs.Ordering.{stands_at}
 
 -- A list has each number below a count once, and no other.
 pub record HasEach (count : ℕ) (l : List ℕ) : Type 0 where
@@ -27,3 +28,23 @@ pub shares_part : (count x : ℕ) (shares : List (List ℕ)) → AreShares count
 shares_part count x shares h =
     let n = each_of_numbers count in
     elim (cases_lt x count) [ inl s ↦ n.once x s ∙ sym (h.once x s) | inr s ↦ n.no_other x s ∙ sym (h.no_other x s) ]
+
+module _ {S : Type 0} (items : S → List ℕ) where
+  -- a share has a number at most as often as all shares
+  pub part_of_all : (x k : ℕ) (d : S) (shares : List S) → k < length shares → times x (items (get_or shares k d)) ≤ times_in_all x (map items shares)
+  part_of_all x k d [] less = absurd (omega arith)
+  part_of_all x zero d (s ∷ ss) less = omega arith
+  part_of_all x (suc k) d (s ∷ ss) less = let rest = part_of_all x k d ss (omega arith) in omega arith
+
+  -- and none but those below the count
+  pub shares_within : (count : ℕ) (shares : List S) → AreShares count (map items shares) → All (λ s. All (λ n. n < count) (items s)) shares
+  shares_within count shares are = λ k d less i e inside.
+      let n = get_or (items (get_or shares k d)) i e in
+      elim (cases_lt n count) [
+        | inl l ↦ l
+        | inr l ↦
+            let some = stands_at (items (get_or shares k d)) i e inside in
+            let part = part_of_all n k d shares less in
+            let none = are.no_other n (omega arith) in
+            absurd (omega (arith, some, part, none))
+      ]

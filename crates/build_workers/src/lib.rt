@@ -4,6 +4,7 @@
 
 mod hands;
 mod numbers;
+mod order;
 mod passes;
 pub mod trial;
 mod work;

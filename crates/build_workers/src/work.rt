@@ -1,11 +1,13 @@
 //! What one worker does.
 
-ghost use Rattle.std.specs.Prelude.{List, ℕ, ⊤, IfOk};
+ghost use Rattle.std.specs.Prelude.{List, ℕ, ◌≡◌, ◌<◌, All, length, IfOk};
 ghost use Rattle.build_workers.specs.Working.{one_for_each, IsDone, IsReady};
 
+use crate::order::rank_share;
 use crate::passes::{SharedInsert, SharedPasses};
 use build_gate::{Gate, GatePoint};
-use octant_code::OutOfMemory;
+use octant_code::{OutOfMemory, Points};
+use octree::body_of;
 use std::alloc::Global;
 use std::marker::{Send, Sync};
 
@@ -48,21 +50,23 @@ pub trait Work<T: SharedPasses>: Sync {
         ensures done { IsDone (T.tree tree.now) (publishes self.now) (T.state pass.new) share.now };
 }
 
-/// The bodies of a share are inserted one after another.
-#[derive(Clone, Copy, Debug, Drop)]
-pub struct InsertEach;
+/// The bodies of a share are inserted one after another, along the Morton keys of these points.
+#[derive(Clone, Copy, Drop)]
+pub struct InsertEach<'a> {
+    pub points: &'a Points,
+}
 
-impl<T: SharedInsert> Work<T> for InsertEach {
-    type Own = ();
+impl<T: SharedInsert> Work<T> for InsertEach<'_> {
+    type Own = Vec<u64>;
 
-    ghost serves = { λ _ _ _. ⊤ };
+    ghost serves = { λ w _. All (λ n. n < length w.points.now) };
 
-    ghost prepared = { λ _ _ _ _. ⊤ };
+    ghost prepared = { λ w _ share own. All (λ n. n < length w.points.now) share × length own.items ≡ length share };
 
     ghost publishes = { λ _. one_for_each };
 
-    fn prepare(&self, _alloc: Global, _tree: &T, _share: &[u32]) -> Result<(), OutOfMemory> {
-        Ok(())
+    fn prepare(&self, alloc: Global, _tree: &T, share: &[u32]) -> Result<Vec<u64>, OutOfMemory> {
+        Ok(vec![in alloc; 0u64; share.len()]?)
     }
 
     fn work<G: Gate>(
@@ -70,13 +74,15 @@ impl<T: SharedInsert> Work<T> for InsertEach {
         tree: &T,
         pass: &mut T::Pass,
         share: &[u32],
-        _own: &mut (),
+        own: &mut Vec<u64>,
         worker: u32,
         gate: &G,
     ) {
         gate.pass(worker, GatePoint::Start);
-        for i in 0..share.len() {
-            tree.insert(pass, share[i]);
+        let ranks = own.as_mut_slice();
+        rank_share(self.points, share, worker, ranks);
+        for i in 0..ranks.len() {
+            tree.insert(pass, body_of(ranks[i]));
             if i == 0 {
                 gate.pass(worker, GatePoint::AfterFirst);
             }

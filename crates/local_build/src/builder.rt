@@ -43,7 +43,8 @@ pub fn build<R: Threads + Sync, G: Gate>(
     let start = Octree::empty(alloc, 0)?;
     let (tree, mut pass) = yard.open(alloc, points, start, &todo)?;
     let shared = Uncounted { tree: &tree };
-    work_shares(rt, alloc, &shared, &mut pass, shares, &InsertEach, gate)?;
+    let work = InsertEach { points };
+    work_shares(rt, alloc, &shared, &mut pass, shares, &work, gate)?;
     let octree = yard.close(tree, pass);
     octree.canonical_tree(points);
     let _whole = octree.whole();

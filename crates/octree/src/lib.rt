@@ -19,4 +19,5 @@ mod text;
 pub use extent::Extent;
 pub use node::{CellNo, Node};
 pub use octree::Octree;
+pub use ranks::{body_of, rank_of};
 pub use subtree::{CellAt, Subtree, Top};

@@ -27,10 +27,10 @@ fn interleaved(p: Point) -> u64 {
     spread(p.x) << 2 | spread(p.y) << 1 | spread(p.z)
 }
 
-/// Where a body comes in the order, and its number: the upper 47 bits of its point's Morton key, and
-/// the number in the 16 lowest. Nothing but time depends on the upper ones.
+/// Where a body comes in the order of insertion, and its number: the upper 47 bits of its point's
+/// Morton key, and the number in the 16 lowest. Nothing but time depends on the upper ones.
 #[inline]
-fn rank_of(p: Point, n: u32) -> u64
+pub fn rank_of(p: Point, n: u32) -> u64
     requires { n < MOST_BODIES }
     ensures { body_of_rank result ≡ n }
 {

@@ -12,6 +12,7 @@ use Rattle.tree_passes.specs.Opening.{Opening, all_bodies, start_bodies}
 use Rattle.tree_passes.proofs.Laws.{in_times, times_once}
 use Rattle.shared_tree.specs.Seen.{SharedTree}
 use Rattle.build_workers.specs.Shares.{times_in_all, AreShares}
+use Rattle.build_workers.proofs.Laws.{part_of_all}
 use Rattle.partree_merge.specs.Merging.{CanMerge}
 
 -- the bodies are the numbers that were to be put in
@@ -22,18 +23,11 @@ opened_all o count empty todo x =
     let all : all_bodies o ≡ numbers count = ap (λ (z : List ℕ). z ++ o.todo) none ∙ todo in
     subst (λ (z : List ℕ). IsIn z x ↔ (x < count)) (sym all) (in_numbers count x)
 
--- a share has a number at most as often as all shares
-part_of_all : (x k : ℕ) (d : Vec ℕ Global) (shares : List (Vec ℕ Global)) → k < length shares
-    → times x (get_or shares k d).items ≤ times_in_all x (map (λ s. s.items) shares)
-part_of_all x k d [] less = absurd (omega arith)
-part_of_all x zero d (s ∷ ss) less = omega arith
-part_of_all x (suc k) d (s ∷ ss) less = let rest = part_of_all x k d ss (omega arith) in omega arith
-
 -- each share can be merged
 pub can_merge_all : (sites : List Site) (t : SharedTree) (shares : List (Vec ℕ Global)) → AreShares (length sites) (map (λ s. s.items) shares)
     → t.opening.sites ≡ sites → at_of t.opening.words 0 ≡ 0 → t.opening.todo ≡ numbers (length sites) → All (λ s. CanMerge sites t s.items) shares
 can_merge_all sites t shares are points empty todo = λ k d less.
-    let part : (x : ℕ) → times x (get_or shares k d).items ≤ times_in_all x (map (λ s. s.items) shares) = λ x. part_of_all x k d shares less in
+    let part : (x : ℕ) → times x (get_or shares k d).items ≤ times_in_all x (map (λ s. s.items) shares) = λ x. part_of_all (λ (v : Vec ℕ Global). v.items) x k d shares less in
     record {
       points = points;
       bodies = opened_all t.opening (length sites) empty todo;

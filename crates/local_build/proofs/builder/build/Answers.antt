@@ -1,4 +1,4 @@
-use Rattle.std.proofs.Common.{◌≡◌, ℕ, List, length, map, sym, subst, ap, ◌∙◌}
+use Rattle.std.proofs.Common.{◌≡◌, ℕ, List, length, map, sym, subst, ap, ◌∙◌, ◌<◌, All, Vec, Global}
 use Rattle.std.specs.Arc.{arc_value}
 use Rattle.octant_code.specs.Space.{Site}
 use Rattle.bh_model.specs.Bodies.{IsIn, NoneTwice, numbers}
@@ -9,7 +9,7 @@ use Rattle.octree.proofs.Laws.{empty_canonical}
 use Rattle.shared_tree.proofs.Laws.{octree_put}
 use Rattle.shared_tree.specs.Seen.{risen, PassState, YardCounts}
 use Rattle.build_workers.specs.Working.{one_for_each}
-use Rattle.build_workers.proofs.Laws.{all_parted, put_changes, put_count, put_each, put_entrusted}
+use Rattle.build_workers.proofs.Laws.{all_parted, put_changes, put_count, put_each, put_entrusted, shares_within}
 use Rattle.local_build.proofs.builder.build.Given.{Over}
 use Rattle.local_build.proofs.builder.build.Goals.{After-deref-2}
 use Rattle.local_build.proofs.builder.build.Goals as goal
@@ -44,13 +44,13 @@ close-octree-requires-clause-all g c =
 
 pub returns-clause-tree : goal.returns-clause-tree
 returns-clause-tree g c =
-    let sites = c.deref-3.ensures in
+    let sites = c.deref-4.ensures in
     let shares = map (λ s. s.items) c.args.shares.now in
     let done = c.work_shares.new.pass.done in
     let bodies = length (arc_value c.args.points.now) in
     let each = put_each bodies c.in_ok-tree.tree one_for_each shares c.work_shares.new.pass c.requires c.in_ok-work_shares.ensures in
     subst (λ (s : List Site). IsOctreeOf s c.close-octree.result) sites
-    (octree_put c.deref-3.result.now c.in_ok-tree.tree.opening done c.work_shares.new.pass.seen c.close-octree.result
+    (octree_put c.deref-4.result.now c.in_ok-tree.tree.opening done c.work_shares.new.pass.seen c.close-octree.result
     (c.in_ok-tree.ensures.points ∙ sym sites) c.close-octree.ensures.tree (c.in_ok-tree.ensures.words 0 ∙ c.in_ok-start.ensures.empty)
     (subst (λ (s : List Site). (x : ℕ) → times x done ≡ times x (numbers (length s))) (sym sites) each) c.canonical_tree.ensures.rule
     c.whole-whole.ensures.bodies c.canonical_tree.ensures.tree)
@@ -71,3 +71,8 @@ returns-clause-changes g c =
     let changes = put_changes bodies c.in_ok-tree.tree shares c.work_shares.new.pass c.requires c.in_ok-work_shares.ensures in
     ap (λ (y : YardCounts). y.changes) c.close-octree.ensures.counts
     ∙ ap (λ (y : YardCounts). risen y.changes c.work_shares.new.pass.changes) c.in_ok-tree.ensures.yard ∙ ap (risen c.args.yard.now.changes) changes
+
+pub work_shares-requires-clause-serves : goal.work_shares-requires-clause-serves
+work_shares-requires-clause-serves g c = λ κ inside.
+    subst (λ (s : List Site). All (λ v. All (λ n. n < length s) v.items) c.args.shares.now) (sym c.deref-3.ensures)
+    (shares_within (λ (v : Vec ℕ Global). v.items) (length (arc_value c.args.points.now)) c.args.shares.now c.requires)
