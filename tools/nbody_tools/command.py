@@ -9,6 +9,7 @@ import argparse
 import contextlib
 import importlib.util
 import os
+import re
 import shutil
 import subprocess
 import sys
@@ -33,6 +34,8 @@ class Words(argparse.ArgumentParser):
         about, mark, examples = text.partition("\nExample")
         super().__init__(prog="tools/" + NAME, description=about.strip(), epilog=(mark + examples).strip() or None,
                          formatter_class=argparse.RawDescriptionHelpFormatter, allow_abbrev=False)
+        # Numbers such as -1e-3 are values too, and no options.
+        self._negative_number_matcher = re.compile(r"^-(\d+\.?\d*|\.\d+)([eE][-+]?\d+)?$")
 
     def error(self, message):
         raise Refusal("%s (tools/%s --help tells its words)" % (message, NAME))
@@ -132,8 +135,8 @@ class Progress:
         self.terminal = sys.stderr.isatty()
         self.next = time.monotonic() + 2
 
-    def step(self):
-        self.done += 1
+    def step(self, done=1):
+        self.done += done
         if time.monotonic() < self.next:
             return
         self.next = time.monotonic() + (1 if self.terminal else 10)

@@ -175,3 +175,57 @@ def animate(name, figure, draw_next, rate):
             writer.grab_frame()
         writer.finish()
     plot.close(figure)
+
+
+def run_figures(rows):
+    """The figures of a run over its frames, a panel for each kind that is there."""
+    steps = [row["step"] for row in rows]
+    panels = [("cells", "cells", (("cells", "cells"),)), ("greatest depth of a body", "level", (("depth", "depth"),)),
+              ("cost of all bodies", "terms, and 1 a body", (("cost", "cost"),)),
+              ("balance of the zones (1 is even)", "greatest / even share", (("balance", "balance"),)),
+              ("terms of a body", "mean", (("terms", "terms"),)),
+              ("kinetic energy, from positions", "mass × steps² / step²", (("kinetic", "kinetic"),)),
+              ("momentum, from positions", "mass × steps / step", tuple(("momentum_" + it, it) for it in "xyz"))]
+    panels = [it for it in panels if any(row[it[2][0][0]] is not None for row in rows)]
+    columns = 2 if len(panels) > 1 else 1
+    deep = math.ceil(len(panels) / columns)
+    figure, axes = plot.subplots(deep, columns, figsize=(4.2 * columns, 2.1 * deep + 0.3), squeeze=False, layout="constrained")
+    for it in axes.flat[len(panels):]:
+        it.set_visible(False)
+    for at, (title, unit, series) in zip(axes.flat, panels):
+        for number, (column, label) in enumerate(series):
+            # What is known between two frames is drawn there.
+            between = 0.5 if column.startswith(("kinetic", "momentum")) else 0
+            known = [(step - between, row[column]) for step, row in zip(steps, rows) if row[column] is not None]
+            few = {"marker": "o", "markersize": 3} if len(known) < 30 else {}
+            at.plot(*zip(*known), color=COLOURS[(0, 3, 2)[number]], linestyle=("-", "--", "-.")[number], linewidth=1.4, label=label, **few)
+        at.set_title(title)
+        at.set_ylabel(unit)
+        at.xaxis.set_major_locator(MaxNLocator(6, integer=True))
+        at.yaxis.set_major_locator(MaxNLocator(5))
+        at.ticklabel_format(axis="y", style="sci", scilimits=(-3, 5), useMathText=True)
+        if len(series) > 1:
+            at.legend(frameon=False, fontsize=9, ncol=len(series), loc="best", handlelength=2.4)
+    for at in axes.flat[max(0, len(panels) - columns):len(panels)]:
+        at.set_xlabel("frame")
+    return figure
+
+
+def accuracy(rows):
+    """Errors and terms against the opening angle."""
+    told = [(int(angle.split("/")[0]) / int(angle.split("/")[1]), terms, numpy.percentile(errors, (50, 99))) for angle, terms, errors in rows]
+    told.sort(key=lambda it: it[0])
+    figure, (upper, lower) = plot.subplots(2, 1, figsize=(6, 5.4), sharex=True, layout="constrained", height_ratios=(3, 2))
+    at = [it[0] for it in told]
+    for number, (label, shape, style) in enumerate((("median", "o", "-"), ("99th percentile", "s", "--"))):
+        upper.plot(at, [it[2][number] for it in told], marker=shape, linestyle=style, color=COLOURS[(0, 3)[number]], label=label)
+    upper.set_yscale("log")
+    upper.set_ylabel("relative error of an acceleration")
+    upper.legend(frameon=False)
+    lower.plot(at, [it[1] for it in told], marker="o", color=COLOURS[2])
+    lower.set_yscale("log")
+    lower.set_ylabel("terms a body")
+    lower.set_xlabel("opening angle theta")
+    for it in (upper, lower):
+        it.grid(True, which="major", linewidth=0.4, color="#cccccc")
+    return figure

@@ -1,7 +1,10 @@
 """Tables of bodies as people have them, and the units by which they go to the grid of a scene and back."""
 
+import heapq
+import itertools
 import json
 import math
+import operator
 import re
 from dataclasses import dataclass
 
@@ -62,53 +65,62 @@ def fields_of(line):
     return [it.strip().strip('"') for it in line.split(",")] if "," in line else line.split()
 
 
-def columns_by(wanted, header, name):
-    """The positions of four columns that are wanted by number from 1, by name, or (None) by the usual names."""
+def columns_by(wanted, whats, header, name):
+    """The positions of the columns that are wanted by number from 1, by name, or (None) by their usual names or places."""
     lower = [it.lower() for it in header or []]
-    if wanted is None:
-        if header is None:
-            return [0, 1, 2, 3]
-        found = [next((lower.index(it) for it in NAMES[what] if it in lower), None) for what in NAMES]
-        if None in found:
-            raise Refusal("%s: no column is named %s; choose with --columns (the table has %s)"
-                          % (name, list(NAMES)[found.index(None)], ", ".join(header)[:80]))
-        return found
+    if wanted is None and header is None:
+        return list(range(len(whats)))
     found = []
-    for it in wanted:
-        if it == "-":
-            found.append(None)
-        elif it.isdigit() and int(it) > 0:
-            found.append(int(it) - 1)
-        elif it.lower() in lower:
-            found.append(lower.index(it.lower()))
-        else:
-            raise Refusal("%s: no column is named '%s'%s" % (name, it, " (the table has %s)" % ", ".join(header)[:80] if header else ""))
+    for what, it in zip(whats, wanted or whats):
+        names = NAMES[what] if wanted is None else (it.lower(),)
+        column = int(it) - 1 if it.isdigit() and int(it) > 0 else next((lower.index(it) for it in names if it in lower), None)
+        if column is None:
+            told = "; the table has %s" % ", ".join(header)[:80] if header else ""
+            raise Refusal("%s: no column is named '%s' (choose with --columns%s)" % (name, it, told))
+        found.append(column)
     return found
 
 
-def read_table(lines, name, wanted=None, mass=None):
-    """The bodies of a table: line number, mass and place of each. A line '#' is a comment; the last one before the bodies
-    names the columns where it has as many words as they have fields, and so does a first line that isn't numbers."""
-    header, comment, columns, bodies = None, None, None, []
-    for n, line in enumerate(lines, 1):
-        bare, mark, remark = line.removeprefix("\ufeff").partition("#")
+class Columns:
+    """What the first lines of a table tell of its columns. A line of '#' is a comment; the last one before the bodies names
+    the columns where it has as many words as they have fields, and so does a first line that isn't numbers."""
+
+    def __init__(self, name, wanted, whats):
+        self.name, self.wanted, self.whats = name, wanted, whats
+        self.header, self.comment, self.found = None, None, None
+
+    def fields(self, line):
+        """The fields of a line that has a body, or None for another line."""
+        bare, mark, remark = line.partition("#")
         fields = fields_of(bare) if bare.strip() else []
         if not fields:
-            comment = fields_of(remark) if mark and not bodies else comment
+            self.comment = fields_of(remark) if mark else self.comment
+            return None
+        if self.found is None:
+            if self.header is None and all(number_of(it) is None for it in fields):
+                self.header = fields
+                return None
+            if self.header is None and len(self.comment or []) == len(fields) and self.is_named(self.comment):
+                self.header = self.comment
+            self.found = columns_by(self.wanted, self.whats, self.header, self.name)
+        return fields
+
+    def is_named(self, comment):
+        """Whether the words of a comment name columns that are looked for."""
+        names = self.wanted if self.wanted is not None else [it for what in self.whats for it in NAMES[what]]
+        return bool({it.lower() for it in comment} & {it.lower() for it in names})
+
+
+def read_table(lines, name, wanted=None, mass=None):
+    """The bodies of a table: line number, mass and place of each. A table without masses has the given one."""
+    whats = list(NAMES) if mass is None else list(NAMES)[1:]
+    columns, bodies = Columns(name, wanted, whats), []
+    for n, line in enumerate(lines, 1):
+        fields = columns.fields(line.removeprefix("\ufeff"))
+        if fields is None:
             continue
-        if columns is None and header is None and all(number_of(it) is None for it in fields):
-            header = fields
-            continue
-        if columns is None:
-            if header is None and comment and len(comment) == len(fields) and (wanted is None or not all(it.isdigit() for it in wanted)):
-                usual = {it for names in NAMES.values() for it in names}
-                header = comment if wanted is not None or usual & {it.lower() for it in comment} else None
-            columns = columns_by(wanted, header, name)
-        values = []
-        for what, column in zip(NAMES, columns):
-            if column is None:
-                values.append(mass)
-                continue
+        values = [] if mass is None else [mass]
+        for what, column in zip(whats, columns.found):
             if column >= len(fields):
                 raise Refusal("%s, line %d: it has %d fields, and %s is field %d" % (name, n, len(fields), what, column + 1))
             values.append(number_of(fields[column]))
@@ -129,8 +141,8 @@ def found_lengths(bodies, fill):
     lows = [min(place[axis] for _, _, place in bodies) for axis in range(3)]
     highs = [max(place[axis] for _, _, place in bodies) for axis in range(3)]
     widest = max(high - low for low, high in zip(lows, highs))
-    step = widest / (fill * (SIDE - 1)) or 1.0
-    return step, tuple((low + high) / 2 - step * (SIDE - 1) / 2 for low, high in zip(lows, highs))
+    step = widest / (fill * (SIDE - 2)) or 1.0
+    return step, tuple((low + high) / 2 - step * (SIDE // 2) for low, high in zip(lows, highs))
 
 
 def found_mass(bodies):
@@ -162,7 +174,7 @@ class FreePoints:
     shells = []
 
     def __init__(self):
-        self.taken, self.full = set(), {}
+        self.taken, self.full, self.open = set(), {}, {}
 
     @classmethod
     def shell(cls, k):
@@ -174,20 +186,32 @@ class FreePoints:
                                if inner <= x * x + y * y + z * z < outer])
         return cls.shells[k]
 
+    def nearest(self, place):
+        """Pairs of a distance and a grid point, by their distance from a place. Points that were taken may be left out."""
+        base = tuple(math.floor(it + 0.5) for it in place)
+        aside, known = math.dist(base, place), []
+        for k in itertools.count(self.full.get(base, 0)):
+            before = len(known)
+            for offset in self.shell(k):
+                point = tuple(map(operator.add, base, offset))
+                if point not in self.taken and all(0 <= it < SIDE for it in point):
+                    heapq.heappush(known, (math.dist(point, place), point))
+            if len(known) == before and k == self.full.get(base, 0):
+                self.full[base] = k + 1
+            # The points of all further shells are at least as far as this.
+            while known and known[0][0] <= k + 1 - aside:
+                yield heapq.heappop(known)
+
     def take(self, place):
         """The free point that is nearest to a place, and how far it is from there."""
-        base = tuple(math.floor(it + 0.5) for it in place)
-        aside = math.dist(base, place)
-        k, best = self.full.get(base, 0), None
-        while best is None or k - aside <= best[0]:
-            free = 0
-            for offset in self.shell(k):
-                point = tuple(a + b for a, b in zip(base, offset))
-                if point not in self.taken and all(0 <= it < SIDE for it in point):
-                    free += 1
-                    best = min(best or (math.inf,), (math.dist(point, place), point))
-            if not free and k == self.full.get(base, 0):
-                self.full[base] = k + 1
-            k += 1
-        self.taken.add(best[1])
-        return best[1], best[0]
+        rounded = tuple(math.floor(it + 0.5) for it in place)
+        if rounded not in self.taken and all(0 <= it < SIDE for it in rounded):
+            self.taken.add(rounded)
+            return rounded, math.dist(rounded, place)
+        points = self.open.pop(place, None) or self.nearest(place)
+        distance, point = next(it for it in points if it[1] not in self.taken)
+        self.taken.add(point)
+        if distance > 1:
+            # Others may be wanted at this very place.
+            self.open[place] = points
+        return point, distance

@@ -1,7 +1,16 @@
+#!/usr/bin/env python3
 """What the program writes for a run of many steps, worked out slowly from the definitions of docs/formats.md with Python's
-whole numbers. For tests only: it shares no code with the tools, so that they are tried on a text they had no hand in."""
+whole numbers. For tests only: it shares no code with the tools, so that they are tried on a text they had no hand in.
 
+    tools/tests/reference.py run [--steps N] [--workers N] [--theta T/Q] [--g N] [--eps2 N] < SCENE
+    tools/tests/reference.py tree < SCENE
+
+It reads scenes of plain body records alone.
+"""
+
+import argparse
 import math
+import sys
 
 SIDE = 1 << 21
 UNIT = 1 << 32
@@ -119,3 +128,25 @@ def run(bodies, steps=1, workers=1, theta=(1, 1), g=UNIT, eps2=0):
         yield "\n".join(lines) + "\n"
         costs = [1 + met for _, met in told]
         moved(exact, speeds, [pull for pull, _ in told])
+
+
+def main():
+    words = argparse.ArgumentParser()
+    words.add_argument("command", choices=("run", "tree"))
+    for name, usual in (("steps", 1), ("workers", 1), ("g", UNIT), ("eps2", 0)):
+        words.add_argument("--" + name, type=int, default=usual)
+    words.add_argument("--theta", default="1/1")
+    given = words.parse_args()
+    records = [line.split(",") for line in sys.stdin.read().split()]
+    bodies = [(int(it[1]), (int(it[2]), int(it[3]), int(it[4]))) for it in records]
+    if given.command == "tree":
+        print("tree " + text_of(tree_of([point for _, point in bodies], list(range(len(bodies))), 0)))
+        return
+    theta = tuple(int(it) for it in given.theta.split("/"))
+    for frame in run(bodies, given.steps, given.workers, theta, given.g, given.eps2):
+        sys.stdout.write(frame)
+        sys.stdout.flush()
+
+
+if __name__ == "__main__":
+    main()
