@@ -10,21 +10,16 @@ TOP = os.path.dirname(os.path.dirname(os.path.realpath(__file__)))
 # Programs are timed as the launcher ./nbody runs them, with great blocks in pages of 2 MiB.
 os.environ.setdefault("GLIBC_TUNABLES", "glibc.malloc.hugetlb=1")
 
-# The scenes that are timed, by the programs that draw them. The seed is always 1.
-SHAPES = {
-    "uniform": ["tools/make-uniform"],
-    "corner": ["tools/make-uniform", "--corner"],
-    "Plummer": ["tools/make-plummer"],
-    "close pairs": ["tools/make-pairs"],
-}
+# The scenes that are timed, by the models of tools/make-scene. The seed is always 1.
+SHAPES = {"uniform": "uniform", "corner": "corner", "Plummer": "plummer", "close pairs": "pairs"}
 
 
 def make_scene(folder, shape, count):
     """Writes a scene to a file in a folder, and gives the file."""
     file = os.path.join(folder, "%s-%d.csv" % (shape.replace(" ", "-"), count))
-    maker = SHAPES[shape]
+    maker = [os.path.join(TOP, "tools/make-scene"), SHAPES[shape], "--bodies", str(count), "--seed", "1", "--quiet"]
     with open(file, "wb") as into:
-        subprocess.run([os.path.join(TOP, maker[0]), *maker[1:], str(count), "1"], stdout=into, check=True)
+        subprocess.run(maker, stdout=into, check=True)
     return file
 
 

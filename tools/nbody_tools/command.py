@@ -68,8 +68,15 @@ def tell(text):
 def run(main):
     """Runs a tool and ends the process with its status."""
     status = 1
+    with contextlib.suppress(OSError):
+        # Python's own standard output loses what a pipe doesn't take at once where PYTHONUNBUFFERED is set.
+        sys.stdout = open(1, "w", encoding="utf-8", newline="\n", closefd=False)
     try:
-        status = main() or 0
+        try:
+            status = main() or 0
+        except SystemExit as end:
+            # Of --help.
+            status = end.code
         sys.stdout.flush()
     except Refusal as fault:
         status = 2
@@ -84,13 +91,11 @@ def run(main):
         tell("%s%s" % (fault.strerror or fault, ": " + str(fault.filename) if fault.filename else ""))
     except KeyboardInterrupt:
         status = 130
-    # What can't be written any more is not tried again at the end.
-    with contextlib.suppress(OSError, ValueError):
-        sys.stderr.flush()
     try:
         sys.stdout.flush()
     except OSError:
-        os.dup2(os.open(os.devnull, os.O_WRONLY), sys.stdout.fileno())
+        # What can't be written isn't tried again at the end of the process.
+        os.dup2(os.open(os.devnull, os.O_WRONLY), 1)
     sys.exit(status)
 
 

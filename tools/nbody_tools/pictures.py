@@ -12,7 +12,7 @@ import numpy
 from matplotlib.collections import LineCollection
 from matplotlib.lines import Line2D
 from matplotlib.patches import Rectangle
-from matplotlib.ticker import MaxNLocator
+from matplotlib.ticker import LogLocator, MaxNLocator, NullLocator
 
 from nbody_tools.command import Failure, Refusal, writing
 from nbody_tools.scenes import SIDE, cube_of
@@ -177,36 +177,60 @@ def animate(name, figure, draw_next, rate):
     plot.close(figure)
 
 
+RUN_PANELS = (
+    ("cells (left) and greatest level (right)", "cells", (("cells", "cells"),)),
+    ("cost of all bodies", "cost", (("cost", "cost"),)),
+    ("balance of the zones: 1 is even", "greatest / even share", (("balance", "balance"),)),
+    ("terms of a body", "mean", (("terms", "terms"),)),
+    ("kinetic energy, from positions", "mass × (grid steps / frame)²", (("kinetic", "kinetic"),)),
+    ("momentum, from positions", "mass × grid steps / frame", tuple(("momentum_" + it, it) for it in "xyz")),
+)
+
+
+def draw_series(axes, rows, column, number, label=None):
+    # What is known between two frames is drawn there.
+    back = 0.5 if column.startswith(("kinetic", "momentum")) else 0
+    known = [(row["step"] - back, row[column]) for row in rows if row[column] is not None]
+    dots = {"marker": "o", "markersize": 3} if len(known) < 30 else {}
+    axes.plot(*zip(*known), color=COLOURS[(0, 3, 2)[number]], linestyle=("-", "--", "-.")[number], linewidth=1.4, label=label, **dots)
+
+
+def draw_depth(axes, rows):
+    """The greatest level, on a scale of its own at the right."""
+    right = axes.twinx()
+    draw_series(right, rows, "depth", 1)
+    right.spines["right"].set_visible(True)
+    right.yaxis.set_major_locator(MaxNLocator(5, integer=True, min_n_ticks=1))
+    levels = [row["depth"] for row in rows]
+    right.set_ylim(min(levels) - 1, max(levels) + 1)
+    for colour, axis, side in ((COLOURS[0], axes, "left"), (COLOURS[3], right, "right")):
+        axis.tick_params(axis="y", colors=colour)
+        axis.spines[side].set_color(colour)
+
+
 def run_figures(rows):
     """The figures of a run over its frames, a panel for each kind that is there."""
-    steps = [row["step"] for row in rows]
-    panels = [("cells", "cells", (("cells", "cells"),)), ("greatest depth of a body", "level", (("depth", "depth"),)),
-              ("cost of all bodies", "terms, and 1 a body", (("cost", "cost"),)),
-              ("balance of the zones (1 is even)", "greatest / even share", (("balance", "balance"),)),
-              ("terms of a body", "mean", (("terms", "terms"),)),
-              ("kinetic energy, from positions", "mass × steps² / step²", (("kinetic", "kinetic"),)),
-              ("momentum, from positions", "mass × steps / step", tuple(("momentum_" + it, it) for it in "xyz"))]
-    panels = [it for it in panels if any(row[it[2][0][0]] is not None for row in rows)]
-    columns = 2 if len(panels) > 1 else 1
+    panels = [it for it in RUN_PANELS if any(row[it[2][0][0]] is not None for row in rows)]
+    columns = min(2, len(panels))
     deep = math.ceil(len(panels) / columns)
-    figure, axes = plot.subplots(deep, columns, figsize=(4.2 * columns, 2.1 * deep + 0.3), squeeze=False, layout="constrained")
+    figure, axes = plot.subplots(deep, columns, figsize=(4.2 * columns, 2.2 * deep + 0.2), squeeze=False, layout="constrained")
     for it in axes.flat[len(panels):]:
         it.set_visible(False)
     for at, (title, unit, series) in zip(axes.flat, panels):
         for number, (column, label) in enumerate(series):
-            # What is known between two frames is drawn there.
-            between = 0.5 if column.startswith(("kinetic", "momentum")) else 0
-            known = [(step - between, row[column]) for step, row in zip(steps, rows) if row[column] is not None]
-            few = {"marker": "o", "markersize": 3} if len(known) < 30 else {}
-            at.plot(*zip(*known), color=COLOURS[(0, 3, 2)[number]], linestyle=("-", "--", "-.")[number], linewidth=1.4, label=label, **few)
+            draw_series(at, rows, column, number, label)
         at.set_title(title)
         at.set_ylabel(unit)
         at.xaxis.set_major_locator(MaxNLocator(6, integer=True))
-        at.yaxis.set_major_locator(MaxNLocator(5))
-        at.ticklabel_format(axis="y", style="sci", scilimits=(-3, 5), useMathText=True)
+        at.yaxis.set_major_locator(MaxNLocator(5, integer=series[0][0] in ("cells", "cost")))
+        at.ticklabel_format(axis="y", style="sci", scilimits=(-3, 6), useMathText=True)
+        if series[0][0] == "cells":
+            draw_depth(at, rows)
         if len(series) > 1:
-            at.legend(frameon=False, fontsize=9, ncol=len(series), loc="best", handlelength=2.4)
-    for at in axes.flat[max(0, len(panels) - columns):len(panels)]:
+            # The legend has room of its own above the lines.
+            at.margins(y=0.3)
+            at.legend(frameon=False, fontsize=9, ncol=len(series), loc="upper center", handlelength=2.4)
+    for at in axes.flat[len(panels) - columns:len(panels)]:
         at.set_xlabel("frame")
     return figure
 
@@ -224,6 +248,9 @@ def accuracy(rows):
     upper.legend(frameon=False)
     lower.plot(at, [it[1] for it in told], marker="o", color=COLOURS[2])
     lower.set_yscale("log")
+    lower.yaxis.set_major_locator(LogLocator(subs=(1, 2, 5)))
+    lower.yaxis.set_major_formatter(lambda value, _: format(value, ",g"))
+    lower.yaxis.set_minor_locator(NullLocator())
     lower.set_ylabel("terms a body")
     lower.set_xlabel("opening angle theta")
     for it in (upper, lower):

@@ -175,7 +175,7 @@ def frames(source, name):
         frame = read_frame(lines)
         if last and frame.number != last.number + 1:
             raise lines.refusal("frame %d follows frame %d" % (frame.number, last.number))
-        if last and ((frame.cost is None) != (last.cost is None) or len(frame.points) != len(last.points)):
+        if last and ((frame.cost is None) != (last.cost is None) or frame.tree.count("b") != last.tree.count("b")):
             raise lines.refusal("frame %d isn't whole" % frame.number)
         yield frame
         last = frame
