@@ -9,6 +9,7 @@ matplotlib.use("Agg")
 import matplotlib.animation
 import matplotlib.pyplot as plot
 import numpy
+import PIL.Image
 from matplotlib.collections import LineCollection
 from matplotlib.lines import Line2D
 from matplotlib.patches import Rectangle
@@ -36,11 +37,14 @@ def look_of(number):
 
 
 def save(figure, name):
-    """Writes a figure to a file, whole or not at all."""
-    kind = os.path.splitext(name)[1].lower()
-    details = {"metadata": {"Date": None}} if kind == ".svg" else {"metadata": {"Software": None}} if kind == ".png" else {}
+    """Writes a figure to a file, whole or not at all. A PNG has a palette of 256 colours, which makes it small."""
     with writing(name) as part:
-        figure.savefig(part, **details)
+        if name.lower().endswith(".png"):
+            figure.canvas.draw()
+            picture = PIL.Image.fromarray(numpy.asarray(figure.canvas.buffer_rgba())).convert("RGB")
+            picture.quantize(256, dither=PIL.Image.Dither.NONE).save(part, optimize=True)
+        else:
+            figure.savefig(part, metadata={"Date": None})
     plot.close(figure)
 
 
@@ -97,8 +101,8 @@ def draw_cells(axes, cells, view):
     for side, x, y in [*squares(cells, view)]:
         half = side / 2
         lines += [((x + half, y), (x + half, y + side)), ((x, y + half), (x + side, y + half))]
-        widths += [max(0.3, 1.2 - 0.3 * math.log2(view.width / side))] * 2
-    axes.add_collection(LineCollection(lines, linewidths=widths, colors="#aaaaaa", zorder=1))
+        widths += [min(max(0.45, 1.2 - 0.3 * math.log2(view.width / side)), 1.5)] * 2
+    axes.add_collection(LineCollection(lines, linewidths=widths, colors="#a0a0a0", zorder=1))
     draw_cube(axes)
 
 
@@ -115,11 +119,11 @@ def draw_pieces(axes, pieces, view):
     draw_cube(axes)
 
 
-def draw_bodies(axes, points, zones, view, panels=1):
+def draw_bodies(axes, points, zones, view, smaller=1):
     """The bodies, each zone in its colour and shape; without zones all in one."""
     at = view.projected(points)
     shown = numpy.all((at >= view.low) & (at <= numpy.add(view.low, view.width)), axis=1).sum() if len(at) else 0
-    size = min(max(20000 / max(shown, 1), 6), 40) / panels
+    size = min(max(20000 / max(shown, 1), 6), 40) / smaller
     for number, bodies in enumerate(zones or [list(range(len(points)))]):
         colour, shape = look_of(number) if zones else (COLOURS[0], "o")
         some = at[bodies] if bodies else at[:0]
@@ -128,14 +132,14 @@ def draw_bodies(axes, points, zones, view, panels=1):
 
 
 def draw_arrows(axes, points, pulls, view):
-    """Accelerations: an arrow's length goes as the square root, the longest is an eighth of the window."""
+    """Accelerations: an arrow's length goes as the square root, up to an eighth of the window, which one of ten may reach."""
     at, along = view.projected(points), view.projected([tuple(float(it) for it in pull) for pull in pulls])
-    size = numpy.hypot(along[:, 0], along[:, 1])
-    if not len(size) or not size.max() > 0:
-        return
-    arrows = along / numpy.sqrt(numpy.where(size > 0, size, 1) * size.max())[:, None] * view.width / 8
+    size = numpy.sqrt(numpy.hypot(along[:, 0], along[:, 1]))
+    usual = numpy.percentile(size[size > 0], 90) if size.any() else 1
+    length = numpy.minimum(size / usual, 1) * view.width / 8
+    arrows = along / numpy.where(size > 0, size * size, 1)[:, None] * length[:, None]
     axes.quiver(at[:, 0], at[:, 1], arrows[:, 0], arrows[:, 1], angles="xy", scale_units="xy", scale=1, width=0.003,
-                headwidth=4, headlength=5, color=INK, zorder=3)
+                headwidth=4.5, headlength=6, color=COLOURS[5], zorder=3)
 
 
 def draw_legend(figure, count, title):
@@ -153,7 +157,7 @@ def figure_of(panels, marks, width):
     """A figure of so many square panels, with room for a legend of so many marks at its right. Lengths are in inches."""
     columns = math.ceil(math.sqrt(panels))
     rows = math.ceil(panels / columns)
-    whole, left, right, below, above, gap = width / 100, 0.65, 0.15 + 0.6 * legend_columns(marks), 0.5, 0.3, 0.35
+    whole, left, right, below, above, gap = width / 100, 0.75, 0.15 + 0.6 * legend_columns(marks), 0.5, 0.3, 0.35
     side = (whole - left - right - gap * (columns - 1)) / columns
     height = side * rows + below + above + gap * (rows - 1)
     figure, axes = plot.subplots(rows, columns, figsize=(whole, height), squeeze=False, sharex=True, sharey=True)
@@ -196,16 +200,18 @@ def draw_series(axes, rows, column, number, label=None):
 
 
 def draw_depth(axes, rows):
-    """The greatest level, on a scale of its own at the right."""
+    """The greatest level, on a scale of its own at the right, in the lower third of the panel."""
     right = axes.twinx()
     draw_series(right, rows, "depth", 1)
     right.spines["right"].set_visible(True)
-    right.yaxis.set_major_locator(MaxNLocator(5, integer=True, min_n_ticks=1))
-    levels = [row["depth"] for row in rows]
-    right.set_ylim(min(levels) - 1, max(levels) + 1)
-    for colour, axis, side in ((COLOURS[0], axes, "left"), (COLOURS[3], right, "right")):
-        axis.tick_params(axis="y", colors=colour)
-        axis.spines[side].set_color(colour)
+    for column, at, below, above in (("cells", axes, 0.6, 0.1), ("depth", right, 0.1, 2.0)):
+        low, high = min(row[column] for row in rows), max(row[column] for row in rows)
+        room = max(high - low, 2)
+        at.set_ylim(low - below * room, high + above * room)
+    right.yaxis.set_major_locator(MaxNLocator(6, integer=True))
+    for colour, at, side in ((COLOURS[0], axes, "left"), (COLOURS[3], right, "right")):
+        at.tick_params(axis="y", colors=colour)
+        at.spines[side].set_color(colour)
 
 
 def run_figures(rows):
