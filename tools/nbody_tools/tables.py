@@ -12,6 +12,8 @@ from nbody_tools.command import Refusal
 from nbody_tools.scenes import MASSES_BELOW, MOST_BODIES, MOST_MASS, SIDE
 
 DEFAULT_G = 1 << 32
+MOST_G = 1 << 40
+MOST_EPS2 = (1 << 44) - 1
 NAMES = {"mass": ("mass", "m", "masses"), "x": ("x",), "y": ("y",), "z": ("z",)}
 
 
@@ -35,6 +37,10 @@ class Units:
     def time(self, g):
         """The time of one step of a run."""
         return math.sqrt(g / DEFAULT_G * self.step / self.gravity / self.mass * self.step * self.step)
+
+    def g_for(self, time):
+        """The g with which a step of a run takes this time."""
+        return DEFAULT_G * (time / self.time(DEFAULT_G)) ** 2
 
     def text(self):
         return json.dumps({"step": self.step, "origin": list(self.origin), "mass": self.mass, "gravity": self.gravity}) + "\n"

@@ -90,6 +90,12 @@ class FromTables(Tools):
         self.assertAlmostEqual(tables.Units(step=2.0, mass=4.0, gravity=1.0).time(1 << 32), math.sqrt(2))
         self.assertAlmostEqual(tables.Units(step=2.0, mass=4.0, gravity=1.0).time(1 << 34), 2 * math.sqrt(2))
 
+    def test_the_words_of_a_run(self):
+        words = ["--step", 2, "--mass-unit", 4, "--time-step", 2 * math.sqrt(2), "--softening", 200]
+        _, told = self.ends(0, "scene-from-table", *words, text="8 0 0 0\n")
+        self.assertIn("the run wants the words --g %d --eps2 10000\n" % (1 << 34), told)
+        self.refuses("--g 8.79609e+12", "scene-from-table", "--step", 2, "--mass-unit", 4, "--time-step", 64, text="8 0 0 0\n")
+
     def test_spaces_tabs_commas_names_and_numbers_of_columns(self):
         wanted = self.writes("scene-from-table", text="3 1 2 3\n5 4 5 6.5\n")
         self.assertEqual(wanted.count("body"), 2)
