@@ -15,6 +15,9 @@ import subprocess
 import sys
 import time
 
+if sys.version_info < (3, 10):
+    sys.exit("%s: Python 3.10 or later is wanted, and this is %d.%d" % (sys.argv[0], *sys.version_info[:2]))
+
 TOP = os.path.dirname(os.path.dirname(os.path.dirname(os.path.realpath(__file__))))
 NAME = os.path.basename(sys.argv[0])
 

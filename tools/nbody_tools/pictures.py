@@ -42,7 +42,8 @@ def save(figure, name):
         if name.lower().endswith(".png"):
             figure.canvas.draw()
             picture = PIL.Image.fromarray(numpy.asarray(figure.canvas.buffer_rgba())).convert("RGB")
-            picture.quantize(256, dither=PIL.Image.Dither.NONE).save(part, optimize=True)
+            # Without dithering: the colours are few and even.
+            picture.quantize(256, dither=0).save(part, optimize=True)
         else:
             figure.savefig(part, metadata={"Date": None})
     plot.close(figure)
@@ -245,7 +246,8 @@ def accuracy(rows):
     """Errors and terms against the opening angle."""
     told = [(int(angle.split("/")[0]) / int(angle.split("/")[1]), terms, numpy.percentile(errors, (50, 99))) for angle, terms, errors in rows]
     told.sort(key=lambda it: it[0])
-    figure, (upper, lower) = plot.subplots(2, 1, figsize=(6, 5.4), sharex=True, layout="constrained", height_ratios=(3, 2))
+    figure, (upper, lower) = plot.subplots(2, 1, figsize=(6, 5.4), sharex=True, layout="constrained",
+                                           gridspec_kw={"height_ratios": (3, 2)})
     at = [it[0] for it in told]
     for number, (label, shape, style) in enumerate((("median", "o", "-"), ("99th percentile", "s", "--"))):
         upper.plot(at, [it[2][number] for it in told], marker=shape, linestyle=style, color=COLOURS[(0, 3)[number]], label=label)
