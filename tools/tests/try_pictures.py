@@ -105,7 +105,8 @@ class PlotRun(Tools):
         frames = ["frame %d\ntree (b0......b1)\ncells 1 depth 1\ncost 2 greatest 2\nzone 0 0 1\nzone 1\n"
                   "acc 0 at %d 0 0 pull 0 0 0 met 1\nacc 1 at 1048576 1048576 %d pull 0 0 0 met 1\n" % (s, 10 + 2 * s, 2000000 - s) for s in range(3)]
         scene = self.write("scene", "body,3,10,0,0\nbody,5,1048576,1048576,2000000\n")
-        rows = [line.split() for line in self.writes("plot-run", "--scene", scene, "--table", "-", "--out", "a.svg", text="".join(frames)).splitlines()]
+        table = self.writes("plot-run", "--scene", scene, "--table", "-", "--out", "a.svg", text="".join(frames))
+        rows = [line.split() for line in table.splitlines()]
         self.assertEqual(rows[0], "# step cells depth cost greatest balance terms kinetic momentum_x momentum_y momentum_z".split())
         self.assertEqual(rows[1], "0 1 1 2 2 2.0 1.0 - - - -".split())
         self.assertEqual(rows[2], "1 1 1 2 2 2.0 1.0 8.5 6 0 -5".split())
@@ -126,7 +127,8 @@ class PlotRun(Tools):
     def test_refusals(self):
         self.refuses("has a tree alone", "plot-run", "-o", "a.svg", text="tree .\n")
         self.refuses("--out or --table", "plot-run")
-        self.refuses("has 3 bodies, and the scene 2", "plot-run", "--table", "-", "--scene", self.write("two", "body,1,0,0,0\nbody,1,1,0,0\n"), text=run_of(BODIES))
+        two = self.write("two", "body,1,0,0,0\nbody,1,1,0,0\n")
+        self.refuses("has 3 bodies, and the scene 2", "plot-run", "--table", "-", "--scene", two, text=run_of(BODIES))
 
 
 class DirectSum(Tools):
@@ -173,8 +175,8 @@ class Accuracy(Tools):
 
     def test_refusals(self):
         pair = "body,8,0,0,0\nbody,1,4,0,0\n"
-        for why, words, text in (("no angle T/Q", ["--theta", "1"], pair), ("fewer than two bodies", [], "body,1,0,0,0\n"), ("there is no program", ["--program", "none"], pair),
-                                 ("record 1", [], "star\n")):
+        for why, words, text in (("no angle T/Q", ["--theta", "1"], pair), ("fewer than two bodies", [], "body,1,0,0,0\n"),
+                                 ("there is no program", ["--program", "none"], pair), ("record 1", [], "star\n")):
             self.refuses(why, "accuracy", *(words if "--program" in words else ["--program", REFERENCE, *words]), text=text)
         _, told = self.ends(1, "accuracy", "--program", self.program("exit 6\n"), text=pair)
         self.assertIn("ended with status 6", told)
