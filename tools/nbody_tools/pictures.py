@@ -124,7 +124,7 @@ def draw_bodies(axes, points, zones, view, smaller=1):
     """The bodies, each zone in its colour and shape; without zones all in one."""
     at = view.projected(points)
     shown = numpy.all((at >= view.low) & (at <= numpy.add(view.low, view.width)), axis=1).sum() if len(at) else 0
-    size = min(max(20000 / max(shown, 1), 6), 40) / smaller
+    size = min(max(20000 / max(shown, 1), 6), 25) / smaller
     for number, bodies in enumerate(zones or [list(range(len(points)))]):
         colour, shape = look_of(number) if zones else (COLOURS[0], "o")
         some = at[bodies] if bodies else at[:0]
