@@ -36,69 +36,95 @@ def body_record(mass, point):
     return "body,%d,%d,%d,%d\n" % (mass, *point)
 
 
-def numbers_of(record, n, name):
-    """The numbers of a record's fields, or a refusal."""
+def numbers_of(record, refusal):
+    """The numbers of a record's fields."""
     names = FORMS.get(record[0])
     if names is None or len(record) != len(names) + 1:
-        raise Refusal("%s: record %d is neither 'body,MASS,X,Y,Z' nor 'move,BODY,X,Y,Z' nor 'pass'" % (name, n))
+        raise refusal("it is neither 'body,MASS,X,Y,Z' nor 'move,BODY,X,Y,Z' nor 'pass'")
     numbers = []
     for what, text in zip(names, record[1:]):
         least, most = {"mass": (1, MOST_MASS), "body": (0, MOST_BODIES - 1)}.get(what, (0, SIDE - 1))
         if not (text.isascii() and text.isdigit()):
-            raise Refusal("%s: record %d: %s is '%s', and no whole number" % (name, n, what, text[:40]))
+            raise refusal("%s is '%s', and no whole number" % (what, text[:40]))
         text = text.lstrip("0") or "0"
         if len(text) > 10 or not least <= int(text) <= most:
-            raise Refusal("%s: record %d: %s is %s, and has to be from %d to %d" % (name, n, what, text[:40], least, most))
+            raise refusal("%s is %s, and has to be from %d to %d" % (what, text[:40], least, most))
         numbers.append(int(text))
     return numbers
 
 
+class Reader:
+    """Reads records one after another. The first fault is a refusal that tells the record."""
+
+    def __init__(self, name):
+        self.name, self.n, self.scene = name, 0, Scene()
+        self.at, self.moves, self.total, self.now = {}, None, 0, None
+
+    def refusal(self, what):
+        return Refusal("%s: record %d: %s" % (self.name, self.n, what))
+
+    def read(self, record):
+        self.n += 1
+        numbers = numbers_of(record, self.refusal)
+        if record[0] == "body":
+            self.body(numbers[0], tuple(numbers[1:]))
+        elif record[0] == "move":
+            self.move(numbers[0], tuple(numbers[1:]))
+        else:
+            self.end_pass()
+
+    def body(self, mass, point):
+        number = len(self.scene.points)
+        self.total += mass
+        if number == MOST_BODIES:
+            raise self.refusal("a scene has at most %d bodies" % MOST_BODIES)
+        if self.total >= MASSES_BELOW:
+            raise self.refusal("the masses up to here sum to 2^40 or more")
+        if point in self.at:
+            raise self.refusal("body %d has the point of body %d" % (number, self.at[point]))
+        if self.moves is not None or self.scene.passes:
+            raise self.refusal("a body stands after a move or a pass")
+        self.at[point] = number
+        self.scene.masses.append(mass)
+        self.scene.points.append(point)
+
+    def move(self, body, point):
+        self.moves = {} if self.moves is None else self.moves
+        if body >= len(self.scene.points):
+            raise self.refusal("there is no body %d" % body)
+        if body in self.moves:
+            raise self.refusal("body %d has been moved in this pass already" % body)
+        self.moves[body] = point
+
+    def end_pass(self):
+        moves, self.moves = self.moves or {}, None
+        self.scene.passes.append(list(moves.items()))
+        self.now = self.now or list(self.scene.points)
+        for body, point in moves.items():
+            self.now[body] = point
+        seen = {}
+        for body, point in enumerate(self.now if moves else ()):
+            if seen.setdefault(point, body) != body:
+                raise self.refusal("after this pass bodies %d and %d are at one point" % (seen[point], body))
+
+    def end(self):
+        """The scene. The end of the text ends a pass that has moves."""
+        if self.moves is not None:
+            self.n += 1
+            self.end_pass()
+        return self.scene
+
+
 def read_scene(text, name):
-    """The scene of a text. The first fault is a refusal that tells the record."""
+    """The scene of a text, by the rules of docs/formats.md; moves and passes are read too."""
     if len(text) > MOST_BYTES:
         raise Refusal("%s: the scene has more than %d bytes" % (name, MOST_BYTES))
-    scene, at, moves, total, n = Scene(), {}, None, 0, 0
+    reader = Reader(name)
     csv.field_size_limit(MOST_BYTES)
     for record in csv.reader(io.StringIO(text.removeprefix("\ufeff"), newline="")):
-        if not record:
-            continue
-        n += 1
-        numbers = numbers_of(record, n, name)
-        if record[0] == "body":
-            mass, point = numbers[0], tuple(numbers[1:])
-            total += mass
-            if len(scene.points) == MOST_BODIES:
-                raise Refusal("%s: record %d: a scene has at most %d bodies" % (name, n, MOST_BODIES))
-            if total >= MASSES_BELOW:
-                raise Refusal("%s: record %d: the masses up to here sum to 2^40 or more" % (name, n))
-            if point in at:
-                raise Refusal("%s: record %d: body %d has the point of body %d" % (name, n, len(scene.points), at[point]))
-            if moves is not None or scene.passes:
-                raise Refusal("%s: record %d: a body stands after a move or a pass" % (name, n))
-            at[point] = len(scene.points)
-            scene.masses.append(mass)
-            scene.points.append(point)
-        elif record[0] == "move":
-            moves = {} if moves is None else moves
-            if numbers[0] >= len(scene.points):
-                raise Refusal("%s: record %d: there is no body %d" % (name, n, numbers[0]))
-            if numbers[0] in moves:
-                raise Refusal("%s: record %d: body %d has been moved in this pass already" % (name, n, numbers[0]))
-            moves[numbers[0]] = tuple(numbers[1:])
-        else:
-            end_pass(scene, moves or {}, name, n)
-            moves = None
-    if moves is not None:
-        end_pass(scene, moves, name, n + 1)
-    return scene
-
-
-def end_pass(scene, moves, name, n):
-    scene.passes.append(list(moves.items()))
-    seen = {}
-    for body, point in enumerate(scene.points_after(len(scene.passes)) if moves else ()):
-        if seen.setdefault(point, body) != body:
-            raise Refusal("%s: record %d: after this pass bodies %d and %d are at one point" % (name, n, seen[point], body))
+        if record:
+            reader.read(record)
+    return reader.end()
 
 
 def spread(number):

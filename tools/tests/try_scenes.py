@@ -166,7 +166,7 @@ class FromRuns(Tools):
                 self.assertEqual(told.count("\n"), 1)
 
     def test_the_reader_of_scenes_agrees_with_the_rules(self):
-        for why, text in (("neither", "body,1,0,0,0\nstar,1,0,0,0\n"), ("y is 'x'", "body,1,0,x,0\n"), ("mass is 0", "body,0,0,0,0\n"),
+        for why, text in (("record 2: it is neither", "body,1,0,0,0\nstar,1,0,0,0\n"), ("y is 'x'", "body,1,0,x,0\n"), ("mass is 0", "body,0,0,0,0\n"),
                           ("after a move or a pass", "body,1,0,0,0\npass\nbody,1,1,0,0\n"), ("no body 1", "body,1,0,0,0\nmove,1,5,5,5\npass\n"),
                           ("moved in this pass already", "body,1,0,0,0\nmove,0,1,0,0\nmove,0,2,0,0\npass\n"),
                           ("body 2 has the point of body 0", "body,1,0,0,0\nbody,1,1,0,0\nbody,1,0,0,0\n"),

@@ -6,7 +6,7 @@ import sys
 
 import reference
 from calling import PLUMMER, PROGRAM, SCENES, TOP, Tools, needs_program
-from nbody_tools import command, scenes, texts
+from nbody_tools import command, models, scenes, texts
 
 FIVE = [(1, (0, 0, 0)), (1, (5, 1, 0)), (1, (1 << 20, 3, 9)), (1, (1 << 20, 3, 10)), (1, (2097151, 2097151, 7))]
 
@@ -82,6 +82,30 @@ class CompareTrees(Tools):
         run = subprocess.run([PROGRAM, *words], input=few.encode(), stdout=subprocess.PIPE, check=True).stdout
         slow = [sys.executable, os.path.join(TOP, "tools", "tests", "reference.py"), *words]
         self.assertEqual(subprocess.run(slow, input=few.encode(), stdout=subprocess.PIPE, check=True).stdout, run)
+
+
+    def served(self, words, text):
+        """What the program writes; where it doesn't serve the words yet, the test is left out."""
+        ran = subprocess.run([PROGRAM, *words], input=text.encode(), stdout=subprocess.PIPE)
+        if ran.returncode == 2:
+            self.skipTest("the program doesn't serve '%s' yet" % " ".join(words[:2]))
+        self.assertEqual(ran.returncode, 0)
+        return ran.stdout.decode()
+
+    @needs_program
+    def test_the_program_writes_the_references_run_of_many_steps(self):
+        words = ["run", "--steps", "6", "--workers", "3", "--g", str(1 << 38), "--eps2", "90000"]
+        bodies = models.bodies_of("two-clusters", 60, 2)
+        wanted = "".join(reference.run(bodies, steps=6, workers=3, g=1 << 38, eps2=90000))
+        self.assertEqual(self.served(words, scene_text(bodies)), wanted)
+
+    @needs_program
+    def test_the_programs_passes_are_those_of_the_scene(self):
+        scene = "body,1,0,0,0\nbody,1,0,0,1\nbody,2,7,7,7\nmove,1,1048576,0,0\npass\npass\nmove,0,1048576,0,0\nmove,1,0,0,0\n"
+        text = self.served(["passes", "--workers", "2"], scene)
+        for number in range(4):
+            self.assertIn("agree", self.writes("compare-trees", "--frame", number, "-", self.write("moving", scene), text=text))
+        self.writes("draw", "--scene", self.path("moving"), "--frame", "0,1,2,3", "-o", "passes.svg", text=text)
 
 
 class Pieces(Tools):
