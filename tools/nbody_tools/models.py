@@ -8,11 +8,13 @@ a count and a seed always give the same bytes. (The built-in sum is not used for
 import math
 import random
 
+from nbody_tools.command import Refusal
 from nbody_tools.scenes import MASSES_BELOW, MOST_MASS, SIDE
 
 MIDDLE = SIDE // 2
 GREATEST_RADIUS = MIDDLE - 1
 CORNER_SIDE = 1 << 15
+MOST_DRAWS = 10000
 
 
 def direction(generator):
@@ -148,17 +150,22 @@ MODELS = {
 
 
 def bodies_of(name, count, seed, radius=None, mass=None):
-    """The bodies of a model. A point that has been drawn already is drawn again."""
+    """The bodies of a model. A point that has been drawn already is drawn again, but not for ever."""
     maker, usual_radius, _, usual_mass, _ = MODELS[name]
     if mass is None and usual_mass is not None:
         # The disc's heavy body is the greatest mass of all.
         mass = min(usual_mass, MOST_MASS // 10 // max(count, 1) if maker is disc else (MASSES_BELOW - 1) // max(count, 1))
     draw = maker(radius or usual_radius, mass, count)
     generator = random.Random(seed)
-    points, bodies = set(), []
+    points, bodies, again = set(), [], 0
     while len(bodies) < count:
         weight, point = draw(generator, len(bodies))
         if point not in points:
             points.add(point)
             bodies.append((weight, point))
+            again = 0
+        elif again < MOST_DRAWS:
+            again += 1
+        else:
+            raise Refusal("a --radius of %d leaves no room for %d bodies" % (radius or usual_radius, count))
     return bodies

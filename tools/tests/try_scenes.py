@@ -52,7 +52,10 @@ class Models(Tools):
         self.refuses("invalid choice: 'plumber'", "make-scene", "plumber")
         self.refuses("from 0 to 65536", "make-scene", "plummer", "--bodies", 65537)
         self.refuses("masses are too great", "make-scene", "ball", "--bodies", 4096, "--mass", 4294967295)
+        self.refuses("is a power of two", "make-scene", "uniform", "--radius", 1000)
+        self.refuses("too great for disc", "make-scene", "disc", "--radius", 1048576)
         self.refuses("leaves no room", "make-scene", "corner", "--radius", 2, "--bodies", 9)
+        self.refuses("leaves no room", "make-scene", "ball", "--radius", 3, "--bodies", 400)
 
 
 class FromTables(Tools):
