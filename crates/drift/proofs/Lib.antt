@@ -1,0 +1,5 @@
+pub mod Axes
+pub mod Places
+pub mod Turning
+pub mod Shifts
+pub mod Beginnings
