@@ -4,6 +4,7 @@ mod ReadWords
 mod Locks
 mod Chains
 mod Descents
+mod KeyWords
 mod Insertions
 mod Texts
 mod Counts

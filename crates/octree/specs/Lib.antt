@@ -6,4 +6,5 @@ pub mod Subtree
 pub mod Ranks
 pub mod Free
 pub mod ByKeys
+pub mod Numbers
 pub mod Growing

@@ -1,4 +1,4 @@
-//! The way down to a word that names no cell.
+//! The ways down to a word: to the one that names no cell and holds a point, and to that of a key.
 
 ghost use Rattle.std.specs.Prelude.{◌≡◌, ◌+◌, ◌*◌, ◌<◌, ◌≤◌, ◌^◌, ℕ, length};
 ghost use Rattle.octant_code.specs.Space.{key_of};
@@ -6,6 +6,7 @@ ghost use Rattle.octant_code.specs.Points.{site_at};
 ghost use Rattle.tree_rule.specs.Words.{at_of, HasCell, HasBody, IsReached};
 ghost use Rattle.tree_rule.specs.Flat.{IsPlaceOf, StandsFor};
 ghost use Rattle.octree.specs.Chain.{NamesNoCell};
+ghost use Rattle.octree.specs.Numbers.{IsWordOfKey};
 ghost use Rattle.octree.specs.Stored.{word_count};
 
 use octant_code::{LEVELS, Points, octant};
@@ -60,4 +61,28 @@ pub fn find_place(words: &Vec<u64>, from: u32, points: &Points, n: u32) -> WayEn
             }
         }
     }
+}
+
+/// The word of the cube of a key, if it is read on the way down from the root word, whose cube has
+/// the key `base`. The word of the cube above tells it.
+pub fn word_of_key(words: &Vec<u64>, base: u64, key: u64) -> Option<u64>
+    requires positive { 1 ≤ base }
+    requires small { (w : ℕ) → IsReached (at_of words.now.items) (at_of words.now.items 0) w → w < 2 ^ 33 }
+    requires first { FIRST_PLACE ≤ length words.now.items }
+    requires room { (c : ℕ) → HasCell words.now.items c → word_count (c + 1) ≤ length words.now.items }
+    ensures { IsWordOfKey words.now.items base key result }
+{
+    if key == base {
+        return Some(words[0]);
+    }
+    if key < base {
+        return None;
+    }
+    let Some(above) = word_of_key(words, base, key / 8) else {
+        return None;
+    };
+    let Named::Cell(cell) = named_by(above) else {
+        return None;
+    };
+    Some(words[place_of_child(cell, (key % 8) as u32)])
 }

@@ -2,7 +2,7 @@
 
 use crate::assemble::{copy_parts, make_places};
 use crate::chain::{Cube, cells_of_words, part_two, words_of_cells};
-use crate::descend::find_place;
+use crate::descend::{find_place, word_of_key};
 use crate::extent::{Extent, extent_of};
 use crate::free::{mark_cells, unmarked};
 use crate::node::{CellNo, Node, node_of};
@@ -14,7 +14,9 @@ use bh_outside::{Failed, Sink, TextBuffer};
 use octant_code::{LEVELS, OutOfMemory, Points, key_at, level_of};
 use std::alloc::Global;
 use std::marker::Model;
-use tree_rule::{CELLS_OF_ONE, MOST_CELLS, place_of_child, word_of_body, word_of_cell};
+use tree_rule::{
+    CELLS_OF_ONE, MOST_CELLS, Named, named_by, place_of_child, word_of_body, word_of_cell,
+};
 
 /// How many cells a tree of many points begins with at least.
 const FIRST_CELLS: u32 = 1024;
@@ -63,6 +65,7 @@ impl Octree {
     ghost use Rattle.octree.specs.ByKeys.{AreParts, IsAssembled};
     ghost use Rattle.octree.specs.Free.{AreFreeCells};
     ghost use Rattle.octree.specs.Node.{IsNodeOf};
+    ghost use Rattle.octree.specs.Numbers.{IsNumberOf};
     ghost use Rattle.octree.specs.Stored.{AreOctreeWords, IsBlankFrom, IsCanonical, IsInserted, IsOctreeOf, IsRoomier, IsStored, all_used, all_words, cells_of, full_tree, root_word, spare_of, tree_of, tree_with_used, word_count};
     ghost use Rattle.octree.specs.Spot.{IsCellUnder, IsReachable, tree_under};
     ghost use Rattle.bh_model.specs.Trees.{height};
@@ -251,6 +254,20 @@ impl Octree {
         ensures { IsNodeOf (at_of self.now.words (child_place c.0 k)) result }
     {
         node_of(self.words[place_of_child(c.0, k)])
+    }
+
+    /// The cell that can be reached and has a key, and `None` exactly where there is none. Any number
+    /// may be asked for. It takes no memory.
+    pub fn number_of(&self, key: u64) -> Option<CellNo>
+        ensures { IsNumberOf self.now key result }
+    {
+        let Some(word) = word_of_key(&self.words, self.base, key) else {
+            return None;
+        };
+        let Named::Cell(cell) = named_by(word) else {
+            return None;
+        };
+        Some(CellNo(cell))
     }
 
     /// Inserts body `n`, which takes at most 21 of the spare cells and no memory.

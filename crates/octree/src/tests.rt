@@ -1,6 +1,6 @@
-//! The cells of a few octrees that can't be reached.
+//! The cells of a few octrees: those that can't be reached, and those of keys.
 
-use crate::Octree;
+use crate::{CellNo, Octree};
 use octant_code::{Distinct, Point, Points};
 use std::test::Fail;
 
@@ -46,5 +46,30 @@ fn no_octrees_put_together_are_the_empty_octree(rt: HostRuntime) -> Result<(), F
     let parts: Vec<Octree> = Vec::new(alloc);
     let tree = Octree::assembled(alloc, &points, &parts)?;
     assert_eq!(rt; (tree.base(), tree.held(), tree.depth()), (1, 0, 0));
+    Ok(())
+}
+
+#[test]
+fn cells_by_their_keys(rt: HostRuntime) -> Result<(), Fail> {
+    let alloc = rt.alloc();
+    let (Some(one), Some(other)) = (Point::new(0, 0, 0), Point::new(1 << 19, 0, 0)) else {
+        return Err(Fail::from("a point past the cube"));
+    };
+    let list = [one, other].to_vec(alloc)?;
+    let Distinct::Yes = Points::test(alloc, &list)? else {
+        return Err(Fail::from("two equal points"));
+    };
+    let tree = Octree::of_points(alloc, &Points::of(list))?;
+    assert_eq!(rt; tree.number_of(1), Some(CellNo(0)));
+    assert_eq!(rt; tree.number_of(8), Some(CellNo(1)));
+    assert_eq!(rt;
+        (
+            tree.number_of(0),
+            tree.number_of(9),
+            tree.number_of(64),
+            tree.number_of(u64::MAX)
+        ),
+        (None, None, None, None)
+    );
     Ok(())
 }
