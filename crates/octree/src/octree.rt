@@ -199,6 +199,16 @@ impl Octree {
         }
     }
 
+    /// The same tree without its spare cells. It takes no memory.
+    pub fn without_spare(self) -> Octree
+        ensures { result ≡ record self { held = self.used } }
+    {
+        Octree {
+            held: self.used,
+            ..self
+        }
+    }
+
     /// How many cells are used, reachable or not. The numbers of the cells that can be reached are
     /// below.
     pub fn used(&self) -> u32
