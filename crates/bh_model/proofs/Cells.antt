@@ -94,14 +94,14 @@ pub record HasTwoFrom (site : ℕ → Site) (bodies : List ℕ) (level key : ℕ
   pub other_key : key ≡ key_of (site other) depth
 
 -- the keys of the cells of the octree of two bodies or more
-keys-many : (site : ℕ → Site) (below level key n m : ℕ) (rest : List ℕ) → cell_keys_from (octree_from site (suc below) level (n ∷ m ∷ rest)) key
+pub keys-many : (site : ℕ → Site) (below level key n m : ℕ) (rest : List ℕ) → cell_keys_from (octree_from site (suc below) level (n ∷ m ∷ rest)) key
     ≡ key ∷ joined (λ k. cell_keys_from (octree_from site below (suc level) (in_octant site level k (n ∷ m ∷ rest))) (8 * key + k)) 8
 keys-many site below level key n m rest =
     ap (λ t. cell_keys_from t key) (octree-many site below level n m rest)
     ∙ keys-cell (λ k. octree_from site below (suc level) (in_octant site level k (n ∷ m ∷ rest))) key
 
 -- where a cell stands, two bodies lie
-two_where_cell : (site : ℕ → Site) (below level key : ℕ) (bodies : List ℕ) (q : ℕ) → level + below ≡ 21 → NoneTwice bodies → LieUnder site level key bodies
+pub two_where_cell : (site : ℕ → Site) (below level key : ℕ) (bodies : List ℕ) (q : ℕ) → level + below ≡ 21 → NoneTwice bodies → LieUnder site level key bodies
     → IsIn (cell_keys_from (octree_from site below level bodies) key) q → HasTwoFrom site bodies level q
 two_where_cell site below level key [] q sum once under i =
     absurd (subst (λ (y : List ℕ). IsIn y q) (ap (λ t. cell_keys_from t key) (octree-none site below level) ∙ keys-empty key) i)

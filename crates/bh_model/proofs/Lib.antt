@@ -18,4 +18,5 @@ pub mod PullSums
 pub mod ZoneCuts
 pub mod Blocks
 pub mod Pieces
+pub mod Movers
 pub mod PieceKeys

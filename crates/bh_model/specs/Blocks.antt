@@ -1,9 +1,8 @@
 -- Blocks: the greatest cubes that hold a body and whose bodies are all of one list.
-use Rattle.std.specs.Prelude.{ℕ, ◌+◌, zero, suc, nat_eq, not, List, [], ◌∷◌, filter, sum_by}
-use Rattle.std.specs.List.{list_any}
+use Rattle.std.specs.Prelude.{ℕ, ◌+◌, zero, suc, List, [], ◌∷◌, sum_by}
 use Rattle.octant_code.specs.declared.limits.TheConstants.{LEVELS}
 use Rattle.octant_code.specs.Space.{Site}
-use Rattle.bh_model.specs.Bodies.{numbers}
+use Rattle.bh_model.specs.Bodies.{numbers, without}
 use Rattle.bh_model.specs.Trees.{in_octant}
 
 -- the sum over the eight octants
@@ -24,7 +23,7 @@ blocks site bodies others = blocks_from site LEVELS 0 bodies others
 
 -- the numbers below a count that a list doesn't have
 abbrev pub others_than : ℕ → List ℕ → List ℕ
-others_than count list = filter (λ n. not (list_any (λ x. nat_eq x n) list)) (numbers count)
+others_than count list = without (numbers count) list
 
 -- the blocks of shares of the bodies below a count: those of each share against all other bodies
 abbrev pub blocks_of_shares : (ℕ → Site) → ℕ → List (List ℕ) → ℕ

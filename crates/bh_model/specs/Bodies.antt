@@ -1,5 +1,6 @@
 -- Lists of bodies. A body is a number, and a function gives the point of each.
-use Rattle.std.specs.Prelude.{ℕ, ◌≡◌, ◌⊎◌, List, [], ◌∷◌, ◌++◌, length, zero, suc}
+use Rattle.std.specs.Prelude.{ℕ, ◌≡◌, ◌⊎◌, List, [], ◌∷◌, ◌++◌, filter, length, nat_eq, not, zero, suc}
+use Rattle.std.specs.List.{list_any}
 use Rattle.octant_code.specs.Space.{Site, IsUnder}
 
 -- the body is a member of the list
@@ -16,6 +17,10 @@ NoneTwice (x ∷ xs) = (IsIn xs x → ⊥) × NoneTwice xs
 unfoldable pub numbers : ℕ → List ℕ
 numbers zero = []
 numbers (suc n) = numbers n ++ (n ∷ [])
+
+-- the members of a list that another doesn't have
+abbrev pub without : List ℕ → List ℕ → List ℕ
+without list others = filter (λ n. not (list_any (λ x. nat_eq x n) others)) list
 
 -- how many bodies a leaf holds
 abbrev pub leaf_size : ℕ

@@ -8,3 +8,4 @@ pub mod Standing
 pub mod Motions
 pub mod Blocks
 pub mod Pieces
+pub mod Movers

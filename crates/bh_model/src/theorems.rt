@@ -2,12 +2,14 @@
 //! at its arguments.
 
 mod blocks;
+mod movers;
 mod pieces;
 mod pulls;
 mod trees;
 mod zones;
 
 pub use blocks::{a_body_has_a_block, blocks_are_at_most_the_bodies};
+pub use movers::{cells_that_stay_are_in_both, counts_are_differences_of_cells};
 pub use pieces::{each_body_is_in_one_piece, pieces_stand_in_tree_order};
 pub use pulls::{a_pull_is_below_the_bound, a_term_is_at_most_the_constant_times_the_mass};
 pub use trees::{
