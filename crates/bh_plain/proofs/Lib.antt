@@ -3,3 +3,4 @@ mod ListMoments
 mod ListPulls
 pub mod ListBlocks
 mod ListPieces
+mod ListUpdates

@@ -10,6 +10,7 @@ mod pulls;
 #[cfg(test)]
 mod tests;
 mod trees;
+mod updates;
 mod zones;
 
 pub use blocks::plain_blocks;
@@ -17,4 +18,5 @@ pub use moments::plain_moment;
 pub use pieces::plain_pieces;
 pub use pulls::plain_pull;
 pub use trees::{plain_order, plain_text};
+pub use updates::plain_update_counts;
 pub use zones::plain_zone;

@@ -1,8 +1,8 @@
-//! Texts and orders of a few octrees, written out by hand.
+//! Texts and orders of a few octrees, and counts of updates, written out by hand.
 
 ghost use Rattle.std.specs.Prelude.{◌<◌, All, IfOk, length};
 
-use crate::{plain_blocks, plain_order, plain_text};
+use crate::{plain_blocks, plain_order, plain_text, plain_update_counts};
 use octant_code::{Distinct, Point, Points};
 use std::alloc::Global;
 use std::test::Fail;
@@ -87,4 +87,30 @@ fn blocks_of_two_pairs(rt: HostRuntime) -> Result<(), Fail> {
     assert_eq!(rt; plain_blocks(rt.alloc(), &points, &[0, 1, 2, 3], &[])?, 1);
     assert_eq!(rt; plain_blocks(rt.alloc(), &points, &[], &[0])?, 0);
     Ok(())
+}
+
+/// A body that leaves a deep pair, a swap of two bodies, and two bodies that draw together.
+#[test]
+fn counts_of_updates(rt: HostRuntime) -> Result<(), Fail> {
+    let alloc = rt.alloc();
+    let far = 1 << 20;
+    let pair = points_of(alloc, &[(0, 0, 0), (0, 0, 1)])?;
+    let apart = points_of(alloc, &[(0, 0, 0), (far, 0, 0)])?;
+    let swapped = points_of(alloc, &[(far, 0, 0), (0, 0, 0)])?;
+    let eight = points_of(alloc, &[(0, 0, 0), (8, 0, 0)])?;
+    let six = points_of(alloc, &[(1, 0, 0), (7, 0, 0)])?;
+    assert_eq!(rt; counts_of(alloc, &pair, &apart)?, [1, 21, 1]);
+    assert_eq!(rt; counts_of(alloc, &pair, &pair)?, [0, 0, 0]);
+    assert_eq!(rt; counts_of(alloc, &apart, &swapped)?, [2, 1, 1]);
+    assert_eq!(rt; counts_of(alloc, &eight, &six)?, [1, 18, 19]);
+    Ok(())
+}
+
+/// The counts of an update of two bodies: those that leave, the freed and the taken cells.
+fn counts_of(alloc: Global, old: &Points, new: &Points) -> Result<[u32; 3], Fail> {
+    if old.len() != 2 || new.len() != 2 {
+        return Err(Fail::from("not two points"));
+    }
+    let counts = plain_update_counts(alloc, old, new, &[0, 1])?;
+    Ok([counts.left, counts.freed, counts.taken])
 }
