@@ -34,14 +34,14 @@ pub parted : (items : List ℕ) (spent k : ℕ) → spent ≤ k → k ≤ length
 parted items spent k low few =
     ap (drop spent) (sym (take-append-drop k items)) ∙ drop-append-le spent (take k items) (drop k items) (omega (arith, low, length-take-le k items few))
 
--- those before a place stay
-pub cut_front : (items : List ℕ) (spent k room : ℕ) → spent ≤ k → k ≤ length items → IsRegion record { cells = drop spent items; room = room }
-    → IsRegion record { cells = drop spent (take k items); room = room }
-cut_front items spent k room low few h =
+-- those before a place stay, and room for them
+pub cut_front : (items : List ℕ) (spent k room left : ℕ) → spent ≤ k → k ≤ length items → length (drop spent items) + k ≤ left + length items
+    → IsRegion record { cells = drop spent items; room = room } → IsRegion record { cells = drop spent (take k items); room = left }
+cut_front items spent k room left low few enough h =
     let parts = parted items spent k low few in
     record {
       once = once_front (drop spent (take k items)) (drop k items) (subst NoneTwice parts h.once);
-      fits = omega (arith, h.fits, ap length parts, length-append (drop spent (take k items)) (drop k items));
+      fits = omega (arith, few, enough, ap length parts, length-append (drop spent (take k items)) (drop k items), length-drop k items);
     }
 
 -- those from a place on are parted off

@@ -27,9 +27,9 @@ ends_of front back l = take front l ++ drop (length l - back) l
 abbrev pub between : ℕ → ℕ → List ℕ → List ℕ
 between front back l = drop front (take (length l - back) l)
 
--- the first `front` cells, and after them the last `back`, stand in a region of their own, which has room for just these
-pub record SplitsEnds (before after : Free) (front back : ℕ) (ends : Free) : Type 0 where
+-- the first `front` cells, and after them the last `back`, stand in a region of their own, which has room for them and for `more` others, and took that room
+pub record SplitsEnds (before after : Free) (front back more : ℕ) (ends : Free) : Type 0 where
   pub parted : ends.cells ≡ ends_of front back before.cells
   pub stays : after.cells ≡ between front back before.cells
-  pub room : ends.room ≡ front + back
-  pub room_stays : after.room ≡ before.room - front
+  pub room : ends.room ≡ front + back + more
+  pub room_left : after.room ≡ before.room - (front + back + more)

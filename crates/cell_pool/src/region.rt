@@ -29,7 +29,7 @@ impl Model for Region {
 }
 
 impl Region {
-    ghost use Rattle.std.specs.Prelude.{◌≡◌, ◌==◌, ◌<◌, ◌≤◌, ◌-◌, [], ◌∷◌, ◌++◌, ◌+◌, IfOk, OnErr, drop, length, take};
+    ghost use Rattle.std.specs.Prelude.{◌≡◌, ◌==◌, ◌<◌, ◌≤◌, ◌-◌, [], ◌∷◌, ◌++◌, ◌+◌, ◌^◌, IfOk, OnErr, OnOk, drop, length, take};
     ghost use Rattle.bh_model.specs.Bodies.{IsIn, NoneTwice};
     ghost use Rattle.cell_pool.specs.Free.{ends_of, IsRegion, Splits, SplitsEnds};
 
@@ -90,18 +90,40 @@ impl Region {
         }
     }
 
-    /// Parts off the first `front` cells, and after them the last `back`, into a region of their own, with
-    /// room for them. This one keeps the cells between them, and its room without that for the first ones.
-    pub fn split_ends(&mut self, front: usize, back: usize) -> Result<Region, OutOfMemory>
-        requires { front + back ≤ length self.old.cells }
-        ensures split { IfOk result (SplitsEnds self.old self.new front back) }
+    /// Takes room for `n` more cells.
+    pub fn reserve(&mut self, n: usize) -> Result<(), OutOfMemory>
+        requires { self.old.room + n < 2 ^ 64 }
+        ensures room { OnOk result (self.new ≡ record self.old { room = self.old.room + n }) }
         ensures refused { OnErr result (self.new ≡ self.old) }
     {
-        let _rule = self.len();
+        let room = self.room + n;
+        let cells = self.list.len() - self.spent;
+        self.list.reserve_exact(room - cells)?;
+        self.room = room;
+        Ok(())
+    }
+
+    /// Parts off the first `front` cells, and after them the last `back`, into a region of their own, with
+    /// room for them and for `more` others. This one keeps the cells between them, and its room without
+    /// that.
+    pub fn split_ends(
+        &mut self,
+        front: usize,
+        back: usize,
+        more: usize,
+    ) -> Result<Region, OutOfMemory>
+        requires cells { front + back ≤ length self.old.cells }
+        requires room { length self.old.cells + more ≤ self.old.room }
+        ensures split { IfOk result (SplitsEnds self.old self.new front back more) }
+        ensures refused { OnErr result (self.new ≡ self.old) }
+    {
+        let _rule = (self.len(), self.room());
         let list = self.ends(front, back)?;
-        self.cut(back);
+        let mut ends = Region::of(list);
+        ends.reserve(more)?;
+        self.cut(back, more);
         self.spend(front);
-        Ok(Region::of(list))
+        Ok(ends)
     }
 
     // A copy of the first `front` cells and the last `back`.
@@ -116,14 +138,16 @@ impl Region {
         Ok(list)
     }
 
-    // Gives up the last `n` cells, and keeps the room for them.
-    fn cut(&mut self, n: usize)
-        requires { n ≤ length self.old.cells }
+    // Gives up the last `n` cells, and the room for them and for `more` others.
+    fn cut(&mut self, n: usize, more: usize)
+        requires cells { n ≤ length self.old.cells }
+        requires room { length self.old.cells + more ≤ self.old.room }
         ensures cells { self.new.cells ≡ take (length self.old.cells - n) self.old.cells }
-        ensures room { self.new.room ≡ self.old.room }
+        ensures room { self.new.room ≡ self.old.room - (n + more) }
     {
         let place = self.list.len() - n;
         self.list.truncate(place);
+        self.room -= n + more;
     }
 
     /// The cells, to be used from the front.

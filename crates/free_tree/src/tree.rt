@@ -19,7 +19,6 @@ use octree::Octree;
 use shared_tree::{PassParts, TreeParts};
 use std::marker::Model;
 use std::sync::ledger::Ledger;
-use tree_rule::CELLS_OF_ONE;
 
 /// A shared octree, into which any number of passes insert at the same time, and none of them waits.
 /// Contracts see it as a `SharedTree`: how its words are written, which table they stand in, and what it
@@ -49,14 +48,14 @@ pub struct FreePass {
 }
 
 impl Model for FreePass {
-    ghost use Rattle.std.specs.Prelude.{length};
-    ghost use Rattle.shared_tree.specs.Seen.{seen_of, IsAtRest, PassState};
+    ghost use Rattle.std.specs.Prelude.{◌≡◌};
+    ghost use Rattle.shared_tree.specs.Seen.{seen_of, PassState};
 
     ghost Value = { PassState };
 
     ghost view = { λ p. seen_of p.parts };
 
-    ghost invariant = { λ p. IsAtRest p.parts.view p.parts.table_id.words p.parts.cells (length p.parts.cells) };
+    ghost invariant = { λ p. p.parts.view.quota ≡ 0 };
 }
 
 impl FreePass {
@@ -64,7 +63,7 @@ impl FreePass {
     pub fn todo_in_points(&self)
         ensures { (x : ℕ) → 1 ≤ times x self.now.todo → x < length self.now.points }
     {
-        self.parts.few_bodies();
+        self.parts.todo_rule();
     }
 }
 
@@ -140,9 +139,7 @@ impl FreeTree {
         ensures kept { OnOk result (pass.new ≡ record pass.old { todo = without_all part.now pass.old.todo }) }
         ensures new { IfOk result (λ r. r ≡ record pass.old { todo = part.now; done = []; seen = pass.old.done ++ pass.old.seen; changes = 0; loads = 0; last = (0, 0) }) }
     {
-        pass.parts.few_bodies();
-        let cells = CELLS_OF_ONE as usize * part.len();
-        let parts = self.parts.split(&mut pass.parts, part, cells, 0)?;
+        let parts = self.parts.split(&mut pass.parts, part)?;
         Ok(FreePass { parts })
     }
 

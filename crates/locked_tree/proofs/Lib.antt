@@ -1,2 +1,2 @@
 mod Publishes
-mod Stocks
+mod Dealt

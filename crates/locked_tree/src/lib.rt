@@ -3,11 +3,10 @@
 
 mod locking;
 mod source;
-mod stock;
 #[cfg(test)]
 mod tests;
 mod tree;
 mod yard;
 
-pub use tree::{LockedPass, LockedTree, Pool};
-pub use yard::LockedYard;
+pub use tree::{LockedPass, LockedTree};
+pub use yard::{LockedYard, Pool};

@@ -1,7 +1,9 @@
-//! Two passes over one tree, and trees that are opened with regions.
+//! Two passes over one tree, private octrees that are merged into it, and trees that are opened with
+//! regions.
 
-ghost use Rattle.std.specs.Prelude.{◌≡◌, ◌≤◌, IfOk};
-ghost use Rattle.octree.specs.Stored.{root_word};
+ghost use Rattle.std.specs.Prelude.{◌≡◌, ◌≢◌, ◌⊎◌, ℕ, ◌<◌, ◌≤◌, length, IfOk};
+ghost use Rattle.octree.specs.Stored.{root_word, IsCanonical};
+ghost use Rattle.tree_rule.specs.Words.{HasBody};
 ghost use Rattle.tree_rule.specs.declared.words.TheConstants.{MOST_CELLS};
 
 use crate::{LockedYard, Pool};
@@ -11,6 +13,7 @@ use std::alloc::Global;
 use std::process::Abort;
 use std::sync::{Arc, Wait};
 use std::test::Fail;
+use tree_rule::CELLS_OF_ONE;
 
 /// The points of two bodies, which lie one step apart.
 fn two_points(alloc: Global) -> Result<Arc<Points>, Fail> {
@@ -51,6 +54,88 @@ fn finds_the_others_body<R: Wait + Abort>(rt: &R, alloc: Global, pool: Pool) -> 
 fn a_pass_finds_what_another_put_in(rt: HostRuntime) -> Result<(), Fail> {
     finds_the_others_body(&rt, rt.alloc(), Pool::Shared)?;
     finds_the_others_body(&rt, rt.alloc(), Pool::Regions)
+}
+
+/// The points of four bodies in two pairs, each of which lies one step apart.
+fn four_points(alloc: Global) -> Result<Arc<Points>, Fail> {
+    let mut list = Vec::new(alloc);
+    for x in [0, 1, 1_048_576, 1_048_577] {
+        let Some(point) = Point::new(x, 0, 0) else {
+            return Err(Fail::from("a point past the cube"));
+        };
+        list.push(point)?;
+    }
+    match Points::test(alloc, &list)? {
+        Distinct::Yes => Ok(Arc::new(alloc, Points::of(list))?),
+        _ => Err(Fail::from("two points are one")),
+    }
+}
+
+/// The octree of two bodies.
+fn pair(alloc: Global, points: &Points, x: u32, n: u32) -> Result<Octree, OutOfMemory>
+    requires first { x < length points.now }
+    requires second { n < length points.now }
+    requires apart { x ≢ n }
+    ensures base { IfOk result (λ t. t.base ≡ 1) }
+    ensures canonical { IfOk result (λ t. IsCanonical points.now t) }
+    ensures bodies { IfOk result (λ t. (m : ℕ) → HasBody t.words m → (m ≡ x) ⊎ (m ≡ n)) }
+{
+    let mut tree = Octree::empty(alloc, 2 * CELLS_OF_ONE)?;
+    tree.insert(points, x);
+    tree.insert(points, n);
+    Ok(tree)
+}
+
+/// A pass puts two bodies in, and another merges the octree of the two others.
+fn merges_into_half_a_tree<R: Wait + Abort>(rt: &R, alloc: Global, pool: Pool) -> Result<(), Fail> {
+    let points = four_points(alloc)?;
+    if points.len() != 4 {
+        return Err(Fail::from("not four points"));
+    }
+    let start = Octree::empty(alloc, 0)?;
+    let part = pair(alloc, &points, 0, 1)?;
+    let mut yard = LockedYard::new();
+    let (tree, mut first) = yard.open(alloc, &points, start, &[0, 1, 2, 3], pool)?;
+    let mut second = tree.split(&mut first, &[2, 3])?;
+    tree.insert(rt, &mut second, 2);
+    tree.insert(rt, &mut second, 3);
+    tree.merge(rt, &mut first, &part);
+    tree.join(&mut first, second);
+    let octree = yard.close(tree, first);
+    assert_eq!(rt; octree.cells(), 41);
+    assert_eq!(rt; octree.order(alloc)?.as_slice(), [0, 1, 2, 3].as_slice());
+    assert_eq!(rt; (yard.published(), yard.changes()), (4, 3));
+    Ok(())
+}
+
+#[test]
+fn a_pass_merges_into_what_another_put_in(rt: HostRuntime) -> Result<(), Fail> {
+    merges_into_half_a_tree(&rt, rt.alloc(), Pool::Shared)?;
+    merges_into_half_a_tree(&rt, rt.alloc(), Pool::Regions)
+}
+
+/// The first pass merges the octree of all bodies.
+fn merges_all<R: Wait + Abort>(rt: &R, alloc: Global, pool: Pool) -> Result<(), Fail> {
+    let points = four_points(alloc)?;
+    if points.len() != 4 {
+        return Err(Fail::from("not four points"));
+    }
+    let start = Octree::empty(alloc, 0)?;
+    let part = Octree::of_points(alloc, &points)?;
+    let mut yard = LockedYard::new();
+    let (tree, mut first) = yard.open(alloc, &points, start, &[0, 1, 2, 3], pool)?;
+    tree.merge(rt, &mut first, &part);
+    let octree = yard.close(tree, first);
+    assert_eq!(rt; octree.cells(), 41);
+    assert_eq!(rt; octree.order(alloc)?.as_slice(), [0, 1, 2, 3].as_slice());
+    assert_eq!(rt; (yard.published(), yard.changes()), (4, 1));
+    Ok(())
+}
+
+#[test]
+fn one_publication_puts_all_into_an_empty_tree(rt: HostRuntime) -> Result<(), Fail> {
+    merges_all(&rt, rt.alloc(), Pool::Shared)?;
+    merges_all(&rt, rt.alloc(), Pool::Regions)
 }
 
 /// An octree with no body, all of whose cells count as used.

@@ -1,33 +1,26 @@
 //! A shared octree, and the passes over it.
 
-ghost use Rattle.std.specs.Prelude.{◌≡◌, ◌≢◌, ℕ, [], ◌∷◌, ◌+◌, ◌<◌, ◌≤◌, ◌++◌, List, length, IfNone, IfOk, IfSome, OnErr, OnOk};
+ghost use Rattle.std.specs.Prelude.{◌≡◌, ◌≢◌, ℕ, [], ◌∷◌, ◌+◌, ◌<◌, ◌≤◌, ◌++◌, length, IfNone, IfOk, IfSome, OnErr, OnOk};
 ghost use Rattle.octant_code.specs.Points.{site_at};
-ghost use Rattle.octant_code.specs.declared.limits.TheConstants.{MOST_BODIES};
 ghost use Rattle.octant_code.specs.Space.{IsUnder};
-ghost use Rattle.tree_rule.specs.Words.{body_word};
+ghost use Rattle.bh_model.specs.Blocks.{blocks};
+ghost use Rattle.bh_model.specs.Trees.{order};
+ghost use Rattle.octree.specs.Stored.{tree_of, IsCanonical};
+ghost use Rattle.tree_rule.specs.Words.{body_word, HasBody};
 ghost use Rattle.tree_passes.specs.Counting.{times, without, without_all};
+ghost use Rattle.tree_passes.specs.Opening.{all_bodies};
 ghost use Rattle.shared_tree.specs.Finding.{NamesNoneAt};
-ghost use Rattle.shared_tree.specs.Seen.{seen_of, IsAtRest, IsOf, PassState, SharedTree};
+ghost use Rattle.shared_tree.specs.Merging.{others_among, HasAllBodies};
+ghost use Rattle.shared_tree.specs.Seen.{seen_of, IsOf, PassState, SharedTree};
 ghost use Rattle.tree_passes.specs.Turns.{HasFound, HasNone};
-ghost use Rattle.locked_tree.specs.Pools.{stock_of};
 
-use crate::source::insert_from;
-use crate::stock::Stock;
+use crate::source::{insert_from, merge_from};
 use octant_code::{OutOfMemory, Point, Steps};
+use octree::Octree;
 use shared_tree::{PassParts, TreeParts};
 use std::marker::{Brand, Model};
 use std::sync::Wait;
 use std::sync::ledger::{Blank, Ledger};
-use tree_rule::CELLS_OF_ONE;
-
-/// Where passes take the cells from that they publish.
-#[derive(Clone, Copy, Debug, PartialEq, Eq)]
-pub enum Pool {
-    /// From the pool word, one number after another.
-    Shared,
-    /// Each pass from a region of its own.
-    Regions,
-}
 
 /// A shared octree, into which any number of passes insert at the same time. Contracts see it as a
 /// `SharedTree`: how its words are written, which table they stand in, and what it was opened with.
@@ -53,32 +46,14 @@ impl Model for LockedTree {
 #[derive(Drop)]
 pub struct LockedPass {
     pub(crate) parts: PassParts,
-    pub(crate) pool: Pool,
-    // with the shared pool, the cells that were drawn and not used yet
-    pub(crate) stock: Stock,
 }
 
 impl Model for LockedPass {
-    ghost use Rattle.shared_tree.specs.Seen.{seen_of, IsAtRest, PassState};
-    ghost use Rattle.locked_tree.specs.Pools.{count_of, spare_of};
+    ghost use Rattle.shared_tree.specs.Seen.{seen_of, PassState};
 
     ghost Value = { PassState };
 
     ghost view = { λ p. seen_of p.parts };
-
-    ghost invariant = { λ p. IsAtRest p.parts.view p.parts.table_id.words (spare_of p.pool p.parts.cells p.stock) (count_of p.pool p.parts.view.quota p.parts.cells) };
-}
-
-/// The stock for so many bodies: how many cells of a region, and how large a quota.
-pub(crate) fn stock_for(pool: Pool, bodies: usize) -> (usize, u64)
-    requires few { bodies ≤ MOST_BODIES }
-    ensures { result ≡ stock_of pool bodies }
-{
-    let cells = CELLS_OF_ONE as usize * bodies;
-    match pool {
-        Pool::Shared => (0, cells as u64),
-        Pool::Regions => (cells, 0),
-    }
 }
 
 // The body at a point. No caller sees the steps, which take no time.
@@ -91,13 +66,9 @@ fn find_from<L: Ledger>(
     requires name { blank.name ≡ L.name }
     requires parts { (blank.parts ≡ L.parts) × (0 < blank.parts) }
     requires tree { IsOf (seen_of pass.old) tree.now }
-    requires rest { (spare : List ℕ) × (count : ℕ) × IsAtRest pass.old.view pass.old.table_id.words spare count }
     ensures table { pass.new.table_id ≡ pass.old.table_id }
-    ensures cells { pass.new.cells ≡ pass.old.cells }
-    ensures quota { pass.new.view.quota ≡ pass.old.view.quota }
     ensures found { IfSome result (HasFound pass.old.view pass.new.view p) }
     ensures missed { IfNone result (HasNone pass.old.view pass.new.view p) }
-    ensures rest { (spare : List ℕ) (count : ℕ) → IsAtRest pass.old.view pass.old.table_id.words spare count → IsAtRest pass.new.view pass.new.table_id.words spare count }
 {
     tree.find(pass, p, &mut Steps::<L>::new(blank))
 }
@@ -109,15 +80,27 @@ impl LockedTree {
         requires todo { 1 ≤ times n pass.old.todo }
         ensures { pass.new ≡ record pass.old { todo = without n pass.old.todo; done = n ∷ pass.old.done; changes = pass.old.changes + 1; loads = pass.new.loads; last = pass.new.last } }
     {
-        insert_from::<R, Brand>(
-            rt,
-            &self.parts,
-            &mut pass.parts,
-            pass.pool,
-            &mut pass.stock,
-            n,
-            Blank::new(1),
-        );
+        insert_from::<R, Brand>(rt, &self.parts, &mut pass.parts, n, Blank::new(1));
+    }
+
+    /// Merges a private octree of bodies of the pass's todo list into the tree. It may wait for locks, and
+    /// takes no memory.
+    ///
+    /// It publishes at most as often as the octree's bodies have blocks against the other bodies of the
+    /// opening, and once where the start is empty and all bodies are still to be put in by this pass.
+    pub fn merge<R: Wait>(&self, rt: &R, pass: &mut LockedPass, part: &Octree)
+        requires tree { IsOf pass.old self.now }
+        requires base { part.now.base ≡ 1 }
+        requires canonical { IsCanonical self.now.opening.sites part.now }
+        requires todo { (x : ℕ) → HasBody part.now.words x → 1 ≤ times x pass.old.todo }
+        ensures pass { pass.new ≡ record pass.old { todo = pass.new.todo; done = pass.new.done; changes = pass.new.changes; loads = pass.new.loads; last = pass.new.last } }
+        ensures todo { (x : ℕ) → times x pass.new.todo + times x (order (tree_of part.now)) ≡ times x pass.old.todo }
+        ensures done { (x : ℕ) → times x pass.new.done ≡ times x (order (tree_of part.now)) + times x pass.old.done }
+        ensures most { pass.new.changes ≤ pass.old.changes + blocks (site_at self.now.opening.sites) (order (tree_of part.now)) (others_among (all_bodies self.now.opening) (order (tree_of part.now))) }
+        ensures some { 1 ≤ length (order (tree_of part.now)) → pass.old.changes + 1 ≤ pass.new.changes }
+        ensures once { HasAllBodies pass.old self.now.opening → 1 ≤ length (order (tree_of part.now)) → pass.new.changes ≡ pass.old.changes + 1 }
+    {
+        merge_from::<R, Brand>(rt, &self.parts, &mut pass.parts, part, Blank::new(1));
     }
 
     /// The body at a point. It waits for nobody, and takes no memory.
@@ -152,14 +135,8 @@ impl LockedTree {
         ensures kept { OnOk result (pass.new ≡ record pass.old { todo = without_all part.now pass.old.todo }) }
         ensures new { IfOk result (λ r. r ≡ record pass.old { todo = part.now; done = []; seen = pass.old.done ++ pass.old.seen; changes = 0; loads = 0; last = (0, 0) }) }
     {
-        pass.parts.few_bodies();
-        let (cells, quota) = stock_for(pass.pool, part.len());
-        let parts = self.parts.split(&mut pass.parts, part, cells, quota)?;
-        Ok(LockedPass {
-            parts,
-            pool: pass.pool,
-            stock: Stock::empty(),
-        })
+        let parts = self.parts.split(&mut pass.parts, part)?;
+        Ok(LockedPass { parts })
     }
 
     /// Takes in a pass whose todo list is empty. The cells that it has left are given up. It takes no

@@ -14,8 +14,7 @@ ghost use Rattle.shared_tree.specs.Ends.{IsTreeAtEnd};
 ghost use Rattle.shared_tree.specs.Seen.{entrusted, risen, IsOf};
 ghost use Rattle.locked_tree.specs.Pools.{AreDealtOut, HasRoom};
 
-use crate::stock::Stock;
-use crate::tree::{LockedPass, LockedTree, Pool};
+use crate::tree::{LockedPass, LockedTree};
 use octant_code::{OutOfMemory, Points};
 use octree::Octree;
 use shared_tree::{Deal, YardParts, deal_region, open};
@@ -24,6 +23,15 @@ use std::marker::Model;
 use std::sync::Arc;
 use tree_passes::Writing;
 use tree_rule::CELLS_OF_ONE;
+
+/// Where passes take the cells from that they publish.
+#[derive(Clone, Copy, Debug, PartialEq, Eq)]
+pub enum Pool {
+    /// From the pool word, one number after another.
+    Shared,
+    /// Each pass from a region of its own.
+    Regions,
+}
 
 /// A place where shared octrees are opened and closed. It counts the bodies and the publications of
 /// all trees that were closed; a count that would pass 2^64 - 1 stays there. Contracts see it as
@@ -121,12 +129,7 @@ impl LockedYard {
         let _rule = (points.len(), start.used());
         let deal = deal_out(alloc, pool, &start, todo.len())?;
         let (tree, parts) = open(alloc, Writing::UnderLocks, points, start, todo, deal)?;
-        let pass = LockedPass {
-            parts,
-            pool,
-            stock: Stock::empty(),
-        };
-        Ok((LockedTree { parts: tree }, pass))
+        Ok((LockedTree { parts: tree }, LockedPass { parts }))
     }
 
     /// Closes a tree with a pass that is entrusted with all that the tree was opened with, whatever is

@@ -4,8 +4,5 @@
 pub use Rattle.shared_tree.proofs.Whole.{octree_put}
 -- cells that are dealt out
 pub use Rattle.shared_tree.proofs.Starts.{region_enough, room_of_regions, serves_region}
--- passes between their calls
-pub use Rattle.shared_tree.proofs.Resting.{rest_joined, rest_with}
-pub use Rattle.shared_tree.proofs.Rests.{part_few, rest_given, rest_kept, split_length, split_times}
 -- what is at most the blocks of a part against all rivals
 pub use Rattle.shared_tree.proofs.MergeRivals.{blocks_among, rivals_all}

@@ -5,6 +5,7 @@ mod Counted
 mod Resting
 mod Rests
 mod Starts
+mod Stocks
 mod Whole
 mod PartTrees
 mod PartCopies

@@ -1,5 +1,5 @@
 -- What a merge leaves of a pass, between its calls.
-use Rattle.std.proofs.Common.{◌≡◌, ℕ, ◌+◌, ◌*◌, ◌<◌, ◌≤◌, List, [], ◌++◌, length, take, drop, sym, subst, ◌∙◌, ap, inl, inr, arith, length-drop}
+use Rattle.std.proofs.Common.{◌≡◌, ℕ, ◌+◌, ◌-◌, ◌*◌, ◌<◌, ◌≤◌, List, [], ◌++◌, length, take, drop, sym, subst, ◌∙◌, ap, inl, inr, arith, length-drop}
 use Rattle.std.proofs.lemmas.Bool.{cases_lt}
 use Rattle.std.proofs.lemmas.List.{length-append}
 use Rattle.atomic_table.specs.Seated.{TableId}
@@ -26,11 +26,19 @@ among_todo bodies todo once all x = elim (cases_lt 0 (times x bodies)) [
   | inr l ↦ omega arith
 ]
 
--- a part has no more bodies than 21 cells each of the spare ones
-pub part_stocked : (v : View) (words : ℕ) (spare bodies : List ℕ) (count : ℕ) → NoneTwice bodies → ((x : ℕ) → IsIn bodies x → 1 ≤ times x v.todo)
-    → IsAtRest v words spare count → CELLS_OF_ONE * length bodies ≤ count
-part_stocked v words spare bodies count once all r =
+-- a pass has room for 21 cells for each body of a part
+pub part_room : (v : View) (words : ℕ) (cells bodies : List ℕ) (room : ℕ) → NoneTwice bodies → ((x : ℕ) → IsIn bodies x → 1 ≤ times x v.todo)
+    → IsAtRest v words cells room → CELLS_OF_ONE * length bodies ≤ room
+part_room v words cells bodies room once all r =
     let few = part_few v bodies (among_todo bodies v.todo once all) in let s = r.stocked in omega arith
+
+-- and where it has none to draw, it has them
+pub part_stocked : (v : View) (words : ℕ) (cells bodies : List ℕ) (room : ℕ) → NoneTwice bodies → ((x : ℕ) → IsIn bodies x → 1 ≤ times x v.todo)
+    → (1 ≤ v.quota → CELLS_OF_ONE * length bodies ≤ length cells) → IsAtRest v words cells room → CELLS_OF_ONE * length bodies ≤ length cells
+part_stocked v words cells bodies room once all drawn r = elim (cases_lt 0 v.quota) [
+  | inl some ↦ drawn some
+  | inr none ↦ let p = part_room v words cells bodies room once all r in let a = r.drawable in omega arith
+]
 
 -- how many are left to put in, and how many were put in
 todo_length : (v w : View) (bodies cells : List ℕ) → IsMerged v w bodies cells → length w.todo + length bodies ≡ length v.todo
@@ -42,10 +50,10 @@ done_length v w bodies cells m =
     length-same w.done (bodies ++ v.done) (λ x. m.done x ∙ sym (times-append x bodies v.done)) ∙ length-append bodies v.done
 
 -- A merge leaves the pass at rest, with the cells that are left.
-pub rest_merged : (v w : View) (words : ℕ) (cells bodies : List ℕ) (used : ℕ) → IsMerged v w bodies (take used cells) → (w.locks ≡ []) × (w.under ≡ [])
-    → used ≤ length cells → used ≤ CELLS_OF_ONE * length bodies → IsAtRest v words cells (length cells)
-    → IsAtRest w words (drop used cells) (length (drop used cells))
-rest_merged v w words cells bodies used m free within few r = record {
+pub rest_merged : (v w : View) (words : ℕ) (cells bodies : List ℕ) (room used : ℕ) → IsMerged v w bodies (take used cells)
+    → (w.locks ≡ []) × (w.under ≡ []) → used ≤ length cells → used ≤ CELLS_OF_ONE * length bodies → IsAtRest v words cells room
+    → IsAtRest w words (drop used cells) (room - used)
+rest_merged v w words cells bodies room used m free within few r = record {
   some = r.some;
   few = r.few;
   rule = subst ArePoints (sym m.points) r.rule;
@@ -53,8 +61,8 @@ rest_merged v w words cells bodies used m free within few r = record {
   none_under = free.1;
   todo_in = λ x p. subst (λ (z : List Site). x < length z) (sym m.points) (r.todo_in x (let a = m.todo x in omega arith));
   ready = ready_merged v w words used bodies cells m r.ready;
-  stocked =
-      let a = todo_length v w bodies (take used cells) m in let s = r.stocked in let l = length-drop used cells in omega arith;
+  stocked = let a = todo_length v w bodies (take used cells) m in let s = r.stocked in omega arith;
+  drawable = let l = length-drop used cells in let q = m.quota in let a = r.drawable in omega arith;
 }
 
 -- and counts its bodies and its publications

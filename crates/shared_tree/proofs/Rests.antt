@@ -6,7 +6,7 @@ use Rattle.tree_passes.specs.Counting.{times, without, without_all}
 use Rattle.tree_passes.specs.Passes.{given_part, kept_part}
 use Rattle.tree_passes.proofs.Laws.{length-without, same-eq, times-append, times-without, times-without_all}
 use Rattle.cell_pool.specs.Free.{between, ends_of}
-use Rattle.cell_pool.proofs.Laws.{length-between, three_parts}
+use Rattle.cell_pool.proofs.Laws.{length-between, length-ends, three_parts}
 use Rattle.shared_tree.specs.Seen.{IsAtRest, IsCounted, IsSplit, PartsOfPass, front_of}
 
 -- numbers that all stand in a list are no more than its
@@ -17,11 +17,6 @@ length-without_all (x ∷ xs) l h =
     let r = length-without_all xs (without x l) (λ z. let q = h z in let w = times-without x z l first in omega arith) in
     let w = length-without x l first in
     omega arith
-
--- an empty list has no number
-pub none_in_none : (x : ℕ) (l : List ℕ) → length l ≡ 0 → times x l ≡ 0
-none_in_none x [] e = refl
-none_in_none x (y ∷ ys) e = absurd (omega arith)
 
 -- the bodies of a part are no more than those that are to be put in
 pub part_few : (v : View) (part : List ℕ) → ((x : ℕ) → times x part ≤ times x v.todo) → length part ≤ length v.todo
@@ -35,6 +30,21 @@ times-ends front back l few c =
     let z = drop (length l - back) l in
     let whole = ap (times c) (three_parts front back l few) in
     omega (arith, whole, times-append c a (b ++ z), times-append c b z, times-append c a z)
+
+-- a pass was split where its region and its view were
+pub is_split : (v w u : PartsOfPass) (part given : List ℕ) (front cells quota : ℕ) → w.table_id ≡ v.table_id → u.table_id ≡ v.table_id
+    → front ≡ front_of (length part) cells → cells ≤ length v.cells → given ≡ u.cells → u.cells ≡ ends_of front (cells - front) v.cells
+    → w.cells ≡ between front (cells - front) v.cells → w.view ≡ kept_part given part quota v.view → u.view ≡ given_part given part quota v.view
+    → IsSplit v w u part cells quota
+is_split v w u part given front cells quota old_table new_table is_front few same parted stays kept new = record {
+  old_table = old_table;
+  new_table = new_table;
+  parted = subst (λ (z : ℕ). u.cells ≡ ends_of z (cells - z) v.cells) is_front parted;
+  stays = subst (λ (z : ℕ). w.cells ≡ between z (cells - z) v.cells) is_front stays;
+  count = let l = length-ends front (cells - front) v.cells (omega arith) in let e = ap length parted in omega arith;
+  kept = subst (λ (z : List ℕ). w.view ≡ kept_part z part quota v.view) same kept;
+  given = subst (λ (z : List ℕ). u.view ≡ given_part z part quota v.view) same new;
+}
 
 -- each cell of a region that was split went to one of both passes
 pub split_times : (v w u : PartsOfPass) (part : List ℕ) (cells quota : ℕ) → IsSplit v w u part cells quota → cells ≤ length v.cells
@@ -52,13 +62,15 @@ split_length v w u part cells quota s few =
     let e = length-between front (cells - front) v.cells (omega (arith, few)) in
     omega (arith, few, e, ap length s.stays)
 
--- the pass that was split, from whose spare cells the given ones were taken
-pub rest_kept : (v w u : PartsOfPass) (words : ℕ) (spare left part : List ℕ) (cells quota count kept : ℕ) → IsSplit v w u part cells quota
-    → ((c : ℕ) → times c spare ≡ times c left + times c u.cells) → ((x : ℕ) → times x part ≤ times x v.view.todo) → count ≤ kept + CELLS_OF_ONE * length part
-    → IsAtRest v.view words spare count → IsAtRest w.view words left kept
-rest_kept v w u words spare left part cells quota count kept s both among enough r =
+-- the pass that was split
+pub rest_kept : (v w u : PartsOfPass) (part : List ℕ) (cells quota words room : ℕ) → IsSplit v w u part cells quota → cells ≤ length v.cells
+    → ((x : ℕ) → times x part ≤ times x v.view.todo) → cells + quota ≡ CELLS_OF_ONE * length part → length v.cells + quota ≤ room
+    → IsAtRest v.view words v.cells room → IsAtRest w.view words w.cells (room - CELLS_OF_ONE * length part)
+rest_kept v w u part cells quota words room s there among sum free r =
     let n = length-without_all part v.view.todo among in
-    subst (λ (z : View). IsAtRest z words left kept) (sym s.kept) (record {
+    let l = split_length v w u part cells quota s there in
+    let both = split_times v w u part cells quota s there in
+    subst (λ (z : View). IsAtRest z words w.cells (room - CELLS_OF_ONE * length part)) (sym s.kept) (record {
       some = r.some;
       few = r.few;
       rule = r.rule;
@@ -76,14 +88,16 @@ rest_kept v w u words spare left part cells quota count kept s both among enough
         inside = λ c p. r.ready.inside c (let b = both c in omega arith);
       };
       stocked = let a = r.stocked in omega arith;
+      drawable = let a = r.drawable in omega arith;
     })
 
 -- and the new one
-pub rest_given : (v w u : PartsOfPass) (words : ℕ) (spare left part : List ℕ) (cells quota count given : ℕ) → IsSplit v w u part cells quota
-    → ((c : ℕ) → times c spare ≡ times c left + times c u.cells) → ((x : ℕ) → times x part ≤ times x v.view.todo) → CELLS_OF_ONE * length part ≤ given
-    → IsAtRest v.view words spare count → IsAtRest u.view words u.cells given
-rest_given v w u words spare left part cells quota count given s both among enough r =
-    subst (λ (z : View). IsAtRest z words u.cells given) (sym s.given) (record {
+pub rest_given : (v w u : PartsOfPass) (part : List ℕ) (cells quota words room : ℕ) → IsSplit v w u part cells quota → cells ≤ length v.cells
+    → ((x : ℕ) → times x part ≤ times x v.view.todo) → cells + quota ≡ CELLS_OF_ONE * length part
+    → IsAtRest v.view words v.cells room → IsAtRest u.view words u.cells (CELLS_OF_ONE * length part)
+rest_given v w u part cells quota words room s there among sum r =
+    let both = split_times v w u part cells quota s there in
+    subst (λ (z : View). IsAtRest z words u.cells (CELLS_OF_ONE * length part)) (sym s.given) (record {
       some = r.some;
       few = r.few;
       rule = r.rule;
@@ -96,7 +110,8 @@ rest_given v w u words spare left part cells quota count given s both among enou
         once = λ c. let a = r.ready.once c in let b = both c in omega arith;
         inside = λ c p. r.ready.inside c (let b = both c in omega arith);
       };
-      stocked = enough;
+      stocked = omega arith;
+      drawable = let n = s.count in omega arith;
     })
 
 -- what a pass has counted stays with it, and the new one has counted nothing

@@ -210,9 +210,10 @@ can_pool o words region cells first quota h s = record {
 }
 
 -- the first pass is at rest, and has counted nothing
-pub rest_begun : (sites : List Site) (words todo held : List ℕ) (quota count : ℕ) → CanOpen sites words todo held → CELLS_OF_ONE * length todo ≤ count
-    → IsAtRest (fresh_view (record { sites = sites; words = words; todo = todo }) held quota todo) (length words) held count
-rest_begun sites words todo held quota count h stock = record {
+pub rest_begun : (sites : List Site) (words todo held : List ℕ) (quota : ℕ) → CanOpen sites words todo held
+    → CELLS_OF_ONE * length todo ≤ length held + quota
+    → IsAtRest (fresh_view (record { sites = sites; words = words; todo = todo }) held quota todo) (length words) held (length held + quota)
+rest_begun sites words todo held quota h stock = record {
   some = let l = h.octree.long in omega arith;
   few = let l = h.octree.long in let f = h.octree.few in omega arith;
   rule = h.points;
@@ -221,4 +222,5 @@ rest_begun sites words todo held quota count h stock = record {
   todo_in = λ x p. h.todo_in x (times_in x todo p);
   ready = record { long = refl; held = λ c. omega arith; once = λ c. once_times held h.held_once c; inside = λ c p. h.held_inside c (times_in c held p) };
   stocked = stock;
+  drawable = omega arith;
 }

@@ -87,17 +87,24 @@ pub record IsSplit (before after new : PartsOfPass) (part : List ℕ) (cells quo
   pub kept : after.view ≡ kept_part new.cells part quota before.view
   pub given : new.view ≡ given_part new.cells part quota before.view
 
--- What a pass keeps between its calls: it holds no lock, the spare cells are its own, and with those that it may still use or draw, so many in all, it has
--- 21 for each body that it is to put in.
-pub record IsAtRest (v : View) (words : ℕ) (spare : List ℕ) (count : ℕ) : Type 0 where
+-- What a pass keeps between its calls: it holds no lock, the cells of its region are its own, the region has room for 21 for each body that it is to put
+-- in, and the pass may draw as many as are missing.
+pub record IsAtRest (v : View) (words : ℕ) (cells : List ℕ) (room : ℕ) : Type 0 where
   pub some : POOL_PLACE < words
   pub few : words ≤ word_count MOST_CELLS
   pub rule : ArePoints v.points
   pub no_lock : v.locks ≡ []
   pub none_under : v.under ≡ []
   pub todo_in : (x : ℕ) → 1 ≤ times x v.todo → x < length v.points
-  pub ready : IsReady v words spare
-  pub stocked : CELLS_OF_ONE * length v.todo ≤ count
+  pub ready : IsReady v words cells
+  pub stocked : CELLS_OF_ONE * length v.todo ≤ room
+  pub drawable : room ≤ v.quota + length cells
+
+-- The pass drew cells from the shared pool, by which its region grew, and nothing else of it changed but words of theirs.
+pub record HasDrawn (v w : View) (before after : List ℕ) : Type 0 where
+  pub view : w ≡ record v { held = w.held; quota = w.quota; memory = w.memory }
+  pub held : (c : ℕ) → times c w.held + times c before ≡ times c v.held + times c after
+  pub quota : w.quota + length after ≡ v.quota + length before
 
 -- the counts of a yard
 pub record YardCounts : Type 0 where

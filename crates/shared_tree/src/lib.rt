@@ -9,6 +9,7 @@ mod parts;
 mod publisher;
 mod search;
 mod start;
+mod stock;
 mod subtrees;
 mod yard;
 

@@ -15,23 +15,24 @@ ghost use Rattle.tree_passes.specs.declared.view.Writing.TheVariants.{UnderLocks
 ghost use Rattle.tree_passes.specs.Counting.{times, without};
 ghost use Rattle.tree_passes.specs.Opening.{all_bodies, opening_of};
 ghost use Rattle.tree_passes.specs.Passes.{joined};
-ghost use Rattle.tree_passes.specs.Plays.{IsDrawn};
 ghost use Rattle.tree_passes.specs.Turns.{HasFound, HasNone};
 ghost use Rattle.shared_tree.specs.Finding.{NamesNoneAt};
 ghost use Rattle.shared_tree.specs.Merging.{others_among, HasAllBodies, IsMerged};
-ghost use Rattle.shared_tree.specs.Seen.{risen, seen_of, IsAtRest, IsCounted, IsOf, IsSplit};
+ghost use Rattle.shared_tree.specs.Seen.{risen, seen_of, IsOf, IsSplit};
 
 use crate::descent::insert;
 use crate::merge::{count_bodies, merge_part};
 use crate::publisher::Publisher;
 use crate::search::find;
+use crate::stock::draw_up_to;
 use cell_pool::Region;
 use octant_code::{OutOfMemory, Point, Points, Steps};
 use octree::Octree;
 use std::marker::Model;
 use std::sync::Arc;
 use std::sync::ledger::Ledger;
-use tree_passes::{Pass, Tree, draw_cell, join_passes, split_pass};
+use tree_passes::{Pass, Tree, join_passes, split_pass};
+use tree_rule::CELLS_OF_ONE;
 
 /// How many cells for each body a part gets from the front of the region that is split; the others it
 /// gets from the end. Insertions use a region from its front, so the cells that all passes use first
@@ -63,8 +64,9 @@ impl Model for TreeParts {
     ghost invariant = { λ t. (t.table.shared.table_id.slots ≡ 0) × (arc_value t.points ≡ (opening_of t.table.shared.key).sites) × (length t.words.items ≡ t.table.shared.table_id.words) × IsBlankFrom t.words.items t.fresh × (word_count t.fresh ≤ length t.words.items) × IsInside (opening_of t.table.shared.key) };
 }
 
-/// What a pass is made of: its seat, the cells of its region, how many bodies it put in, and how often
-/// it published, up to 2^64 - 1. Contracts see it as a `PartsOfPass`.
+/// What a pass is made of: its seat, its region, how many bodies it put in, and how often it published,
+/// up to 2^64 - 1. The region has room for the cells that the pass may draw, too. Contracts see it as a
+/// `PartsOfPass`.
 #[derive(Drop)]
 pub struct PassParts {
     pub(crate) seat: Pass,
@@ -75,51 +77,44 @@ pub struct PassParts {
 
 impl Model for PassParts {
     ghost use Rattle.std.specs.Prelude.{◌≡◌, []};
-    ghost use Rattle.shared_tree.specs.Seen.{IsCounted, PartsOfPass};
+    ghost use Rattle.shared_tree.specs.Seen.{IsAtRest, IsCounted, PartsOfPass};
 
     ghost Value = { PartsOfPass };
 
     ghost view = { λ p. record { table_id = p.seat.table_id; view = p.seat.me.0; cells = p.region.cells } };
 
-    ghost invariant = { λ p. (p.seat.me.1 ≡ []) × IsCounted p.seat.me.0 p.published p.changes };
+    ghost invariant = { λ p. (p.seat.me.1 ≡ []) × IsCounted p.seat.me.0 p.published p.changes × IsAtRest p.seat.me.0 p.seat.table_id.words p.region.cells p.region.room };
 }
 
 impl TreeParts {
-    /// Puts a body of the todo list in with spare cells, and counts at most 66 steps. Returns how many of
-    /// them it took, from the front.
-    pub fn insert_with<P: Publisher, L: Ledger>(
-        &self,
-        publisher: &P,
-        pass: &mut PassParts,
-        spare: &[u32],
-        n: u32,
-        steps: &mut Steps<L>,
-    ) -> usize
-        requires writing { self.now.writing ≡ P.writing }
-        requires tree { IsOf (seen_of pass.old) self.now }
-        requires todo { 1 ≤ times n pass.old.view.todo }
-        requires rest { (count : ℕ) × IsAtRest pass.old.view pass.old.table_id.words spare.now count }
-        requires stock { CELLS_OF_ONE ≤ length spare.now }
-        ensures few { (result ≤ length spare.now) × (result ≤ CELLS_OF_ONE) }
-        ensures table { pass.new.table_id ≡ pass.old.table_id }
-        ensures cells { pass.new.cells ≡ pass.old.cells }
-        ensures quota { pass.new.view.quota ≡ pass.old.view.quota }
-        ensures put { seen_of pass.new ≡ record (seen_of pass.old) { todo = without n pass.old.view.todo; done = n ∷ pass.old.view.done; changes = pass.old.view.changes + 1; loads = pass.new.view.loads; last = pass.new.view.last } }
-        ensures rest { (count : ℕ) → IsAtRest pass.old.view pass.old.table_id.words spare.now count → IsAtRest pass.new.view pass.new.table_id.words (drop result spare.now) (count - CELLS_OF_ONE) }
-        ensures steps { steps.new ≤ steps.old + 66 }
+    /// Sees to it that a pass has 21 cells for each of so many bodies, which are no more than it is to put
+    /// in. Those that it hasn't it draws from the shared pool.
+    pub fn fill_up(&self, pass: &mut PassParts, bodies: usize)
+        requires locks { self.now.writing ≡ UnderLocks }
+        requires table { pass.old.table_id ≡ self.now.table_id }
+        requires bodies { bodies ≤ length pass.old.view.todo }
+        ensures seen { seen_of pass.new ≡ seen_of pass.old }
+        ensures enough { CELLS_OF_ONE * bodies ≤ length pass.new.cells }
     {
-        let used = insert(
-            publisher,
-            &self.table.shared,
-            &mut pass.seat,
-            spare,
-            &self.points,
-            n,
-            steps,
-        );
-        pass.published = pass.published.saturating_add(1);
-        pass.changes = pass.changes.saturating_add(1);
-        used
+        pass.todo_rule();
+        let wanted = CELLS_OF_ONE as usize * bodies;
+        draw_up_to(&self.table.shared, &mut pass.seat, &mut pass.region, wanted);
+    }
+
+    /// Sees to it that a pass has 21 cells for each body of a private octree of bodies of its todo list.
+    pub fn fill_up_for(&self, pass: &mut PassParts, part: &Octree)
+        requires locks { self.now.writing ≡ UnderLocks }
+        requires tree { IsOf (seen_of pass.old) self.now }
+        requires base { part.now.base ≡ 1 }
+        requires canonical { IsCanonical self.now.opening.sites part.now }
+        requires todo { (x : ℕ) → HasBody part.now.words x → 1 ≤ times x pass.old.view.todo }
+        ensures seen { seen_of pass.new ≡ seen_of pass.old }
+        ensures enough { CELLS_OF_ONE * length (order (tree_of part.now)) ≤ length pass.new.cells }
+    {
+        pass.todo_rule();
+        part.canonical_tree(&self.points);
+        let bodies = count_bodies(&part.whole());
+        self.fill_up(pass, bodies as usize);
     }
 
     /// The body at a point, by at most 22 steps.
@@ -130,7 +125,6 @@ impl TreeParts {
         steps: &mut Steps<L>,
     ) -> Option<u32>
         requires tree { IsOf (seen_of pass.old) self.now }
-        requires rest { (spare : List ℕ) × (count : ℕ) × IsAtRest pass.old.view pass.old.table_id.words spare count }
         ensures table { pass.new.table_id ≡ pass.old.table_id }
         ensures cells { pass.new.cells ≡ pass.old.cells }
         ensures quota { pass.new.view.quota ≡ pass.old.view.quota }
@@ -144,43 +138,37 @@ impl TreeParts {
         ensures under { IsUnder pass.new.view.last.0 p }
         ensures names { IfSome result (λ b. pass.new.view.last.1 ≡ body_word b) }
         ensures names_none { IfNone result (NamesNoneAt self.now.opening.sites p pass.new.view.last.1) }
-        ensures rest { (spare : List ℕ) (count : ℕ) → IsAtRest pass.old.view pass.old.table_id.words spare count → IsAtRest pass.new.view pass.new.table_id.words spare count }
         ensures steps { steps.new ≤ steps.old + 22 }
     {
         find(&self.table.shared, &mut pass.seat, &self.points, p, steps)
     }
 
-    /// Splits bodies of the todo list off for a new pass, which gets so many cells of the region and this
-    /// quota. The first cells, up to 2 for each body, are from the region's front, and the others from its
-    /// end.
+    /// Splits bodies of the todo list off for a new pass, which gets room for 21 cells for each of them,
+    /// and the right to draw them. As many as the old one has no room to draw it gets from the region: the
+    /// first, up to 2 for each body, from its front, and the others from its end.
     ///
     /// # Errors
     ///
     /// `OutOfMemory` for want of memory. Nothing changed then.
-    pub fn split(
-        &self,
-        pass: &mut PassParts,
-        part: &[u32],
-        cells: usize,
-        quota: u64,
-    ) -> Result<PassParts, OutOfMemory>
+    pub fn split(&self, pass: &mut PassParts, part: &[u32]) -> Result<PassParts, OutOfMemory>
         requires tree { IsOf (seen_of pass.old) self.now }
-        requires some { 0 < self.now.table_id.words }
         requires part { (x : ℕ) → times x part.now ≤ times x pass.old.view.todo }
-        requires cells { cells ≤ length pass.old.cells }
-        requires held { 0 < cells → (c : ℕ) → times c pass.old.cells ≤ times c pass.old.view.held }
-        requires quota { quota ≤ pass.old.view.quota }
         ensures refused { OnErr result (pass.new ≡ pass.old) }
-        ensures split { IfOk result (λ r. IsSplit pass.old pass.new r part.now cells quota) }
+        ensures split { IfOk result (λ r. IsSplit pass.old pass.new r part.now (length r.cells) (CELLS_OF_ONE * length part.now - length r.cells)) }
+        ensures quota { IfOk result (λ r. r.view.quota ≤ pass.old.view.quota) }
     {
+        pass.todo_rule();
+        let wanted = CELLS_OF_ONE as usize * part.len();
+        let drawn = wanted.min(pass.region.room() - pass.region.len());
+        let cells = wanted - drawn;
         let front = cells.min(LOW_CELLS_OF_ONE * part.len());
-        let region = pass.region.split_ends(front, cells - front)?;
+        let region = pass.region.split_ends(front, cells - front, drawn)?;
         let seat = split_pass(
             &self.table.shared,
             &mut pass.seat,
             region.rest(),
             part,
-            quota,
+            drawn as u64,
         );
         Ok(PassParts {
             seat,
@@ -190,12 +178,10 @@ impl TreeParts {
         })
     }
 
-    /// Takes in a pass that holds no lock and whose todo list is empty. The cells that it has left are
+    /// Takes in a pass whose todo list is empty. The cells that it has left are
     /// given up.
     pub fn join(&self, into: &mut PassParts, from: PassParts)
         requires tree { IsOf (seen_of into.old) self.now × IsOf (seen_of from) self.now }
-        requires some { 0 < self.now.table_id.words }
-        requires no_lock { from.view.locks ≡ [] }
         requires empty { from.view.todo ≡ [] }
         ensures { into.new ≡ record into.old { view = joined into.old.view from.view } }
     {
@@ -210,7 +196,8 @@ impl TreeParts {
         join_passes(&self.table.shared, &mut into.seat, seat);
     }
 
-    /// Puts a body of the todo list in with cells of the pass's region, and counts at most 66 steps.
+    /// Puts a body of the todo list in with cells of the pass's region, and counts at most 66 steps. A pass
+    /// that may draw cells has filled up before.
     pub fn insert<P: Publisher, L: Ledger>(
         &self,
         publisher: &P,
@@ -221,11 +208,9 @@ impl TreeParts {
         requires writing { self.now.writing ≡ P.writing }
         requires tree { IsOf (seen_of pass.old) self.now }
         requires todo { 1 ≤ times n pass.old.view.todo }
-        requires rest { IsAtRest pass.old.view pass.old.table_id.words pass.old.cells (length pass.old.cells) }
-        ensures table { pass.new.table_id ≡ pass.old.table_id }
+        requires stock { 1 ≤ pass.old.view.quota → CELLS_OF_ONE ≤ length pass.old.cells }
         ensures quota { pass.new.view.quota ≡ pass.old.view.quota }
         ensures put { seen_of pass.new ≡ record (seen_of pass.old) { todo = without n pass.old.view.todo; done = n ∷ pass.old.view.done; changes = pass.old.view.changes + 1; loads = pass.new.view.loads; last = pass.new.view.last } }
-        ensures rest { IsAtRest pass.new.view pass.new.table_id.words pass.new.cells (length pass.new.cells) }
         ensures steps { steps.new ≤ steps.old + 66 }
     {
         let used = insert(
@@ -243,7 +228,8 @@ impl TreeParts {
     }
 
     /// Merges a private octree of bodies of the todo list into the tree with cells of the pass's region,
-    /// by at most three steps for each of its cells and 66 for each of its bodies. It takes no memory.
+    /// by at most three steps for each of its cells and 66 for each of its bodies. A pass that may draw
+    /// cells has filled up before. It takes no memory.
     /// Returns how often it published: at most as often as the part has blocks against the other bodies
     /// of the opening, and once where there are none.
     pub fn merge<P: Publisher, L: Ledger>(
@@ -258,8 +244,8 @@ impl TreeParts {
         requires base { part.now.base ≡ 1 }
         requires canonical { IsCanonical self.now.opening.sites part.now }
         requires todo { (x : ℕ) → HasBody part.now.words x → 1 ≤ times x pass.old.view.todo }
-        requires rest { IsAtRest pass.old.view pass.old.table_id.words pass.old.cells (length pass.old.cells) }
-        ensures table { pass.new.table_id ≡ pass.old.table_id }
+        requires stock { 1 ≤ pass.old.view.quota → CELLS_OF_ONE * length (order (tree_of part.now)) ≤ length pass.old.cells }
+        ensures quota { pass.new.view.quota ≡ pass.old.view.quota }
         ensures merged { (used : ℕ) × (used ≤ CELLS_OF_ONE * length (order (tree_of part.now))) × (pass.new.cells ≡ drop used pass.old.cells) × IsMerged pass.old.view pass.new.view (order (tree_of part.now)) (take used pass.old.cells) }
         ensures stays { seen_of pass.new ≡ record (seen_of pass.old) { todo = pass.new.view.todo; done = pass.new.view.done; changes = pass.new.view.changes; loads = pass.new.view.loads; last = pass.new.view.last } }
         ensures todo { (x : ℕ) → times x pass.new.view.todo + times x (order (tree_of part.now)) ≡ times x pass.old.view.todo }
@@ -268,7 +254,6 @@ impl TreeParts {
         ensures most { result ≤ length (order (tree_of part.now)) }
         ensures some { 1 ≤ length (order (tree_of part.now)) → 1 ≤ result }
         ensures blocks { result ≤ blocks (site_at self.now.opening.sites) (order (tree_of part.now)) (others_among (all_bodies self.now.opening) (order (tree_of part.now))) }
-        ensures rest { IsAtRest pass.new.view pass.new.table_id.words pass.new.cells (length pass.new.cells) }
         ensures steps { steps.new ≤ steps.old + 3 * (cell_count (tree_of part.now) + 22 * length (order (tree_of part.now))) }
         ensures once { HasAllBodies (seen_of pass.old) self.now.opening → (result ≤ 1) × (steps.new ≤ steps.old + 3) }
     {
@@ -291,22 +276,10 @@ impl TreeParts {
 }
 
 impl PassParts {
-    /// Draws a cell from the shared pool, which counts against the quota.
-    pub fn draw(&mut self, tree: &TreeParts) -> u32
-        requires locks { tree.now.writing ≡ UnderLocks }
-        requires tree { self.old.table_id ≡ tree.now.table_id }
-        requires pool { POOL_PLACE < tree.now.table_id.words }
-        requires quota { 1 ≤ self.old.view.quota }
-        ensures table { self.new.table_id ≡ self.old.table_id }
-        ensures cells { self.new.cells ≡ self.old.cells }
-        ensures drawn { IsDrawn self.old.view result self.new.view }
-    {
-        draw_cell(&tree.table.shared, &mut self.seat)
-    }
-
-    /// It is to put in no more bodies than there may be.
-    pub fn few_bodies(&self)
-        ensures { length self.now.view.todo ≤ MOST_BODIES }
+    /// It is to put in no more bodies than there may be, and each has a point.
+    pub fn todo_rule(&self)
+        ensures few { length self.now.view.todo ≤ MOST_BODIES }
+        ensures points { (x : ℕ) → 1 ≤ times x self.now.view.todo → x < length self.now.view.points }
     {
         let _counted = self.published;
     }

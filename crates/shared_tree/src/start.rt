@@ -13,7 +13,7 @@ ghost use Rattle.tree_passes.specs.Counting.{numbers_from};
 ghost use Rattle.tree_passes.specs.Ends.{CanOpen, CanPool};
 ghost use Rattle.tree_passes.specs.Opening.{all_bodies, fresh_view, opening_of};
 ghost use Rattle.shared_tree.specs.Ends.{AreHandedOut, AreStartWords, Serves};
-ghost use Rattle.shared_tree.specs.Seen.{seen_of, IsAtRest};
+ghost use Rattle.shared_tree.specs.Seen.{seen_of};
 
 use crate::parts::{PassParts, TreeParts};
 use cell_pool::Region;
@@ -131,13 +131,16 @@ fn begin(
     requires pool { CanPool words.items deal.region.items deal.pool deal.quota }
     requires quota { writing ≡ ByExchange → deal.quota ≡ 0 }
     requires fresh { IsBlankFrom words.items fresh × (word_count fresh ≤ length words.items) }
+    requires enough { CELLS_OF_ONE * length todo.now.items ≤ length deal.region.items + deal.quota }
+    requires few { length deal.region.items + deal.quota ≤ MOST_CELLS }
     ensures writing { IfOk result (λ r. r.0.writing ≡ writing) }
     ensures opening { IfOk result (λ r. r.0.opening ≡ record { sites = arc_value points; words = words.items; todo = todo.now.items }) }
     ensures pass { IfOk result (λ r. r.1 ≡ record { table_id = r.0.table_id; view = fresh_view (record { sites = arc_value points; words = words.items; todo = todo.now.items }) deal.region.items deal.quota todo.now.items; cells = deal.region.items }) }
-    ensures rest { IfOk result (λ r. (count : ℕ) → CELLS_OF_ONE * length todo.now.items ≤ count → IsAtRest r.1.view r.1.table_id.words deal.region.items count) }
 {
     let (table, seat) = open_table(alloc, writing, &points, &mut words, todo, &deal)?;
-    let Deal { region, .. } = deal;
+    let Deal { region, quota, .. } = deal;
+    let mut region = Region::of(region);
+    region.reserve(quota as usize)?;
     let tree = TreeParts {
         table,
         points,
@@ -146,7 +149,7 @@ fn begin(
     };
     let pass = PassParts {
         seat,
-        region: Region::of(region),
+        region,
         published: 0,
         changes: 0,
     };
@@ -174,14 +177,13 @@ pub fn open(
     requires todo_fresh { (x : ℕ) → IsIn todo.now x → HasBody start.words x → ⊥ }
     requires deal { Serves start deal.region.items deal.cells deal.pool deal.quota }
     requires quota { writing ≡ ByExchange → deal.quota ≡ 0 }
+    requires enough { CELLS_OF_ONE * length todo.now ≤ length deal.region.items + deal.quota }
     ensures writing { IfOk result (λ r. r.0.writing ≡ writing) }
     ensures points { IfOk result (λ r. r.0.opening.sites ≡ arc_value points.now) }
     ensures words { IfOk result (λ r. (i : ℕ) → at_of r.0.opening.words i ≡ at_of start.words i) }
     ensures todo { IfOk result (λ r. r.0.opening.todo ≡ todo.now) }
     ensures pass { IfOk result (λ r. seen_of r.1 ≡ record { table_id = r.0.table_id; points = arc_value points.now; bodies = all_bodies r.0.opening; todo = todo.now; done = []; seen = []; changes = 0; loads = 0; last = (0, 0) }) }
-    ensures cells { IfOk result (λ r. r.1.cells ≡ deal.region.items) }
     ensures quota { IfOk result (λ r. r.1.view.quota ≡ deal.quota) }
-    ensures rest { IfOk result (λ r. (count : ℕ) → CELLS_OF_ONE * length todo.now ≤ count → IsAtRest r.1.view r.1.table_id.words deal.region.items count) }
 {
     let _rule = points.len();
     let fresh = start.used();

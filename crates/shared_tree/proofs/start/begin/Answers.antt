@@ -1,8 +1,9 @@
-use Rattle.std.proofs.Common.{◌≡◌, ◌≤◌, ℕ, List, length, ap, sym, subst, refl, ◌∙◌, arith}
+use Rattle.std.proofs.Common.{◌≡◌, ◌≤◌, ◌+◌, ℕ, List, length, ap, sym, subst, refl, ◌∙◌, arith}
 use Rattle.std.specs.Arc.{arc_value}
 use Rattle.octant_code.specs.Space.{Site}
 use Rattle.octant_code.specs.declared.limits.TheConstants.{MOST_BODIES}
 use Rattle.tree_rule.proofs.Laws.{few_below}
+use Rattle.cell_pool.specs.Free.{Free}
 use Rattle.tree_passes.specs.declared.view.View.{View}
 use Rattle.tree_passes.specs.Opening.{Opening, fresh_view, opening_of}
 use Rattle.shared_tree.specs.Seen.{IsAtRest, IsCounted, IsInside}
@@ -38,21 +39,23 @@ invariant_of-tree c =
       subst IsInside (sym (opened_is (goal.at.invariant_of-tree c).In_ok-table)) inside,
     )
 
+pub reserve-requires : goal.reserve-requires
+reserve-requires c = omega (arith, c.requires.few, c.of-region.ensures.room)
+
 pub invariant_of-pass : goal.invariant_of-pass
 invariant_of-pass c =
     let e = c.in_ok-table.ensures in
     let todo = c.args.todo.now.items in
     let r = c.requires.opens in
-    let few : length todo ≤ MOST_BODIES = omega (arith, few_below (length (arc_value c.args.points)) todo r.todo_once r.todo_in, r.points.few) in (
-      ap (λ z. z.1) e.pass.1,
-      subst (λ (z : View). IsCounted z 0 0) (sym (view (goal.at.invariant_of-pass c).In_ok-table))
-          (record { todo_few = few; bodies = refl; publications = refl }),
-    )
-
-pub returns-clause-rest : goal.returns-clause-rest
-returns-clause-rest c = λ count enough.
-    let e = c.in_ok-table.ensures in
-    let d = (goal.at.returns-clause-rest c).In_ok-table in
+    let d = (goal.at.invariant_of-pass c).In_ok-table in
+    let few : length todo ≤ MOST_BODIES = omega (arith, few_below (length (arc_value c.args.points)) todo r.todo_once r.todo_in, r.points.few) in
     let words : c.in_ok-table.seat.table_id.words ≡ length c.args.words.items = ap (λ z. z.words) e.pass.0 ∙ e.counts.0 in
-    subst (λ (z : View × ℕ). IsAtRest z.0 z.1 c.args.deal.region.items count) (λ i. (sym (view d) i, sym words i))
-    (rest_begun (arc_value c.args.points) c.args.words.items c.args.todo.now.items c.args.deal.region.items c.args.deal.quota count c.requires.opens enough)
+    let count = length c.args.deal.region.items + c.args.deal.quota in
+    let cells : c.reserve.new.self.cells ≡ c.args.deal.region.items = ap (λ (z : Free). z.cells) c.in_ok-reserve.ensures.room ∙ c.of-region.ensures.cells in
+    let room : c.reserve.new.self.room ≡ count =
+    ap (λ (z : Free). z.room) c.in_ok-reserve.ensures.room ∙ ap (λ (z : ℕ). z + c.args.deal.quota) c.of-region.ensures.room in (
+      ap (λ z. z.1) e.pass.1,
+      subst (λ (z : View). IsCounted z 0 0) (sym (view d)) (record { todo_few = few; bodies = refl; publications = refl }),
+      subst (λ (z : View × ℕ × List ℕ × ℕ). IsAtRest z.0 z.1 z.2 z.3) (λ i. (sym (view d) i, sym words i, sym cells i, sym room i))
+          (rest_begun (arc_value c.args.points) c.args.words.items todo c.args.deal.region.items c.args.deal.quota r c.requires.enough),
+    )

@@ -1,7 +1,8 @@
-use Rattle.std.proofs.Common.{◌≡◌, ℕ, List, sym, subst}
+use Rattle.std.proofs.Common.{◌≡◌, ℕ, List, sym, subst, arith}
 use Rattle.std.specs.Arc.{arc_value}
 use Rattle.octant_code.specs.Space.{Site}
 use Rattle.octant_code.specs.Points.{ArePoints}
+use Rattle.tree_rule.proofs.Laws.{few_below}
 use Rattle.tree_passes.specs.Ends.{CanOpen}
 use Rattle.shared_tree.proofs.Starts.{can_open, can_pool}
 use Rattle.shared_tree.proofs.start.open.Goals.{In_ok-bodies}
@@ -23,3 +24,9 @@ begin-requires-clause-opens c =
 
 pub begin-requires-clause-pool : goal.begin-requires-clause-pool
 begin-requires-clause-pool c = can_pool c.args.start _ _ _ _ _ c.in_ok-words.ensures c.requires.deal
+
+pub begin-requires-clause-few : goal.begin-requires-clause-few
+begin-requires-clause-few c =
+    let d = c.requires.deal in
+    let few = few_below c.args.deal.pool c.args.deal.region.items d.once d.given in
+    omega (arith, few, d.sum, d.few)

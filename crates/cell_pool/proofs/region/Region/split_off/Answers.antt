@@ -35,7 +35,8 @@ invariant_of-self c =
     elim c.match-split_off.branch [
       | in-Ok w ↦ (
         subst (λ xs. IsRegion record { cells = drop f.spent xs; room = f.room }) (sym w.in-Ok.ensures.items)
-            (cut_front f.list.items f.spent (c.len.result - c.args.n) f.room (omega (arith, count, enough)) (omega (arith, count)) was.0),
+            (cut_front f.list.items f.spent (c.len.result - c.args.n) f.room f.room (omega (arith, count, enough)) (omega (arith, count))
+            (omega (arith, count, was.0.fits)) was.0),
         omega (arith, ap length w.in-Ok.ensures.items, length-take-le (c.len.result - c.args.n) f.list.items (omega (arith, count)), count, enough),
         room,
       )

@@ -1,11 +1,10 @@
-use Rattle.std.proofs.Common.{◌≤◌, ◌+◌, ◌*◌, ℕ, List, length, subst, sym, arith}
+use Rattle.std.proofs.Common.{◌≤◌, ◌+◌, ◌*◌, length, subst, arith}
 use Rattle.std.specs.Arc.{arc_value}
 use Rattle.octant_code.specs.Points.{ArePoints}
 use Rattle.tree_rule.proofs.Laws.{few_below}
 use Rattle.bh_model.specs.Trees.{cell_count}
 use Rattle.octree.specs.Stored.{IsStored, tree_of}
 use Rattle.tree_rule.specs.declared.words.TheConstants.{CELLS_OF_ONE, MOST_CELLS}
-use Rattle.shared_tree.specs.Seen.{IsAtRest}
 use Rattle.shared_tree.proofs.Laws.{region_enough, room_of_regions, serves_region}
 use Rattle.free_tree.proofs.yard.FreeYard.open.Goals.{After-len-rule}
 use Rattle.free_tree.proofs.yard.FreeYard.open.Goals as goal
@@ -33,8 +32,5 @@ open-requires-clause-deal c =
     serves_region c.args.start (CELLS_OF_ONE * length c.args.todo.now) _ _ _ _ rule (room (goal.at.open-requires-clause-deal c).After-len-rule rule)
     e.handed e.pool.0 e.pool.1
 
-pub invariant_of-result-2 : goal.invariant_of-result-2
-invariant_of-result-2 c =
-    let p = c.in_ok-tree.pass in
-    let enough = region_enough c.args.start _ _ _ c.in_ok-deal.ensures.handed in
-    subst (λ (z : List ℕ). IsAtRest p.view p.table_id.words z (length z)) (sym c.in_ok-tree.ensures.cells) (c.in_ok-tree.ensures.rest _ enough)
+pub open-requires-clause-enough : goal.open-requires-clause-enough
+open-requires-clause-enough c = omega (arith, region_enough c.args.start _ _ _ c.in_ok-deal.ensures.handed)

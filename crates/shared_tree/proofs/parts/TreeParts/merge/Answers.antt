@@ -28,22 +28,31 @@ pub merge_part-merged-requires-clause-stock : goal.merge_part-merged-requires-cl
 merge_part-merged-requires-clause-stock g c =
     let f = c.pass.inside in
     let t = c.canonical_tree.ensures in
-    subst (λ (z : List ℕ). CELLS_OF_ONE * length (order (tree_of c.args.part.now)) ≤ length z) (sym c.rest.ensures)
-    (part_stocked f.seat.me.0 f.seat.table_id.words f.region.cells (order (tree_of c.args.part.now)) (length f.region.cells)
-    (whole_once _ _ t.rule c.requires.base t.tree)
+    let bodies = order (tree_of c.args.part.now) in
+    subst (λ (z : List ℕ). CELLS_OF_ONE * length bodies ≤ length z) (sym c.rest.ensures)
+    (part_stocked f.seat.me.0 f.seat.table_id.words f.region.cells bodies f.region.room (whole_once _ _ t.rule c.requires.base t.tree)
     (λ x i. subst (λ (p : PartsOfPass). 1 ≤ times x p.view.todo) (sym c.pass.view_is) (c.requires.todo x ((c.whole.ensures.bodies x).0 i)))
-    (subst (λ (p : PartsOfPass). IsAtRest p.view p.table_id.words p.cells (length p.cells)) (sym c.pass.view_is) c.requires.rest))
+    (subst (λ (p : PartsOfPass). 1 ≤ p.view.quota → CELLS_OF_ONE * length bodies ≤ length p.cells) (sym c.pass.view_is) c.requires.stock)
+    c.pass.invariant.2)
 
 pub invariant_of-pass : goal.invariant_of-pass
 invariant_of-pass g c =
     let e = c.merge_part-merged.ensures in
     let i = c.pass.invariant in
-    let f = c.pass.inside in (
+    let f = c.pass.inside in
+    let w = c.merge_part-merged.new.pass.me.0 in
+    let used = c.merge_part-merged.result.used in
+    let bodies = order (tree_of c.args.part.now) in
+    let cells = f.region.cells in
+    let m = merged g (goal.at.invariant_of-pass g c).After-merge_part-merged in
+    let within : used ≤ length cells = subst (λ (z : List ℕ). used ≤ length z) c.rest.ensures e.within in (
       e.pass.1 ∙ i.0,
-      counted_merged f.seat.me.0 c.merge_part-merged.new.pass.me.0 (order (tree_of c.args.part.now)) _ f.published f.changes _ _ _ _
-          (merged g (goal.at.invariant_of-pass g c).After-merge_part-merged) e.changes i.1
+      counted_merged f.seat.me.0 w bodies _ f.published f.changes _ _ _ _ m e.changes i.1
           (c.count_bodies-bodies.ensures ∙ ap (λ (l : List ℕ). risen 0 (length l)) (ap order c.whole.ensures.tree))
           c.saturating_add-pass-inside.ensures c.saturating_add-pass-inside-2.ensures,
+      subst (λ (z : ℕ × List ℕ × ℕ). IsAtRest w z.0 z.1 z.2)
+          (λ k. (sym (ap (λ z. z.words) e.pass.0) k, sym c.spend.ensures.cells k, sym c.spend.ensures.room k))
+          (rest_merged f.seat.me.0 w f.seat.table_id.words cells bodies f.region.room used m e.no_lock within e.few i.2),
     )
 
 pub returns-clause-merged : goal.returns-clause-merged
@@ -97,16 +106,3 @@ returns-clause-once g c = λ h.
     c.merge_part-merged.ensures.alone
     (alone_all c.pass.inside.seat.table_id c.pass.inside.seat.me.0 o (own g (goal.at.returns-clause-once g c).After-merge_part-merged)
     (subst (λ (p : PartsOfPass). HasAllBodies (seen_of p) o) (sym c.pass.view_is) h))
-
-pub returns-clause-rest : goal.returns-clause-rest
-returns-clause-rest g c =
-    let e = c.merge_part-merged.ensures in
-    let f = c.pass.inside in
-    let used = c.merge_part-merged.result.used in
-    let cells = f.region.cells in
-    let within : used ≤ length cells = subst (λ (z : List ℕ). used ≤ length z) c.rest.ensures e.within in
-    subst (λ (z : ℕ × List ℕ). IsAtRest c.merge_part-merged.new.pass.me.0 z.0 z.1 (length z.1))
-    (λ i. (sym (ap (λ z. z.words) e.pass.0) i, sym c.spend.ensures.cells i))
-    (rest_merged f.seat.me.0 c.merge_part-merged.new.pass.me.0 f.seat.table_id.words cells (order (tree_of c.args.part.now)) used
-    (merged g (goal.at.returns-clause-rest g c).After-merge_part-merged) e.no_lock within e.few
-    (subst (λ (p : PartsOfPass). IsAtRest p.view p.table_id.words p.cells (length p.cells)) (sym c.pass.view_is) c.requires.rest))
