@@ -21,13 +21,13 @@ differing s t differ = elim (cases_Bool (same_coordinates s t)) [
 ]
 
 -- where no body is at a point, none is found
-none_from : (bodies : List Body) (s : Site) (k : ℕ) → ((i : ℕ) → i < length bodies → site_at (sites_of bodies) i ≢ s)
+pub none_from : (bodies : List Body) (s : Site) (k : ℕ) → ((i : ℕ) → i < length bodies → site_at (sites_of bodies) i ≢ s)
     → position_from (λ (b : Body). same_coordinates s b.at) k bodies ≡ None
 none_from [] s k other = refl
 none_from (b ∷ bs) s k other = rw (differing s b.at (other 0 (omega arith)), none_from bs s (k + 1) (λ i within. other (suc i) (omega arith))) refl
 
 -- the first body at a point is found
-first_from : (bodies : List Body) (s : Site) (k e : ℕ) → e < length bodies → site_at (sites_of bodies) e ≡ s
+pub first_from : (bodies : List Body) (s : Site) (k e : ℕ) → e < length bodies → site_at (sites_of bodies) e ≡ s
     → ((i : ℕ) → i < e → site_at (sites_of bodies) i ≢ s) → position_from (λ (b : Body). same_coordinates s b.at) k bodies ≡ Some (k + e)
 first_from [] s k e within here other = absurd (omega arith)
 first_from (b ∷ bs) s k zero within here other =

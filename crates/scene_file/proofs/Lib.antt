@@ -4,3 +4,7 @@ pub mod Records
 pub mod Scenes
 pub mod Gatherings
 pub mod Making
+mod Shifts
+mod Finding
+mod Meetings
+mod PassingRule

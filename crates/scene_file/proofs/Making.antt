@@ -1,5 +1,5 @@
 -- The points of codes, and that the bodies of a made scene keep the rule of bodies.
-use Rattle.std.proofs.Common.{ℕ, ◌+◌, ◌-◌, ◌*◌, ◌/◌, ◌%◌, ◌^◌, ◌<◌, ◌≤◌, ◌≡◌, ◌≢◌, ◌∙◌, List, [], ◌∷◌, ◌++◌, length, zero, suc, sym, ap, refl, arith, inl, inr, length-append, add-one}
+use Rattle.std.proofs.Common.{ℕ, ◌+◌, ◌-◌, ◌*◌, ◌/◌, ◌%◌, ◌^◌, ◌<◌, ◌≤◌, ◌≡◌, ◌≢◌, ◌∙◌, [], ◌∷◌, ◌++◌, length, zero, suc, sym, ap, refl, arith, inl, inr, length-append, add-one}
 use Rattle.std.proofs.Math.Nat.{div-div-eq-div-mul, eq-or-lt_of_le, mul_comm, pow-suc, pow-succ'}
 use Rattle.std.proofs.Math.Seq.{get_or-append_seam}
 use Rattle.std.proofs.lemmas.List.{get_or-map, get_or_append_left, length-map}
@@ -9,7 +9,7 @@ use Rattle.octant_code.specs.Space.{IsInCube, bit_at, key_of, octant_of, origin}
 use Rattle.octant_code.proofs.Keys.{key-suc, octant-bits}
 use Rattle.scene_file.proofs.BodyLists.{total_mass-push}
 use Rattle.scene_file.specs.Bodies.{AreBodies, sites_of, total_mass}
-use Rattle.scene_file.specs.Made.{code_of, codes_of, every_third, made_bodies, made_body, site_of_code}
+use Rattle.scene_file.specs.Made.{code_of, every_third, made_bodies, made_body, site_of_code}
 use Rattle.scene_file.specs.declared.bodies.Body.{Body}
 use Rattle.scene_file.specs.declared.made.Shape.{Shape}
 use Rattle.scene_file.specs.declared.made.Shape.TheVariants as shape

@@ -1,7 +1,7 @@
--- The text of a scene's bodies reads as these bodies.
-use Rattle.std.proofs.Common.{◌≡◌, ◌≢◌, ◌∙◌, ◌<◌, ◌≤◌, ◌+◌, ◌*◌, ◌-◌, ◌^◌, ℕ, suc, Bool, true, false, List, [], ◌∷◌, ◌++◌, All, map, take, length, get_or}
-use Rattle.std.proofs.Common.{Some, None, Ok, codes, decimal, refl, sym, ap, subst, arith, inl, inr, length-append, lt-ltb}
-use Rattle.std.specs.Prelude.{flat_map, nat_le, nat_lt}
+-- The text of a scene reads as the scene.
+use Rattle.std.proofs.Common.{◌≡◌, ◌≢◌, ◌∙◌, ◌<◌, ◌≤◌, ◌+◌, ◌*◌, ◌-◌, ◌^◌, ◌==◌, ℕ, suc, Bool, true, false, List, [], ◌∷◌, ◌++◌, All, map, take, length, get_or}
+use Rattle.std.proofs.Common.{None, Ok, codes, decimal, refl, sym, ap, subst, arith, inl, inr, add-zero, eqb-true, length-append, lt-ltb}
+use Rattle.std.specs.Prelude.{flat_map, if◌then◌else◌, nat_le, nat_lt}
 use Rattle.std.specs.Int.{IsInRange}
 use Rattle.std.specs.List.{list_all, position_from}
 use Rattle.std.specs.Char.{is_ascii_digit}
@@ -11,26 +11,33 @@ use Rattle.std.proofs.lemmas.Fmt.{decimal_is_IsNumeral, length-decimal-le}
 use Rattle.std.proofs.lemmas.Str.Parse.{digit_at}
 use Rattle.std.proofs.lemmas.List.{append_assoc, append-nil, get_or_append_left, length-map, map-append, take_more}
 use Rattle.std.proofs.lemmas.Grind.{flat_map-append}
-use Rattle.std.proofs.lemmas.List.Elements.{All-from_get_or, All-head, All-tail, All-weaker}
+use Rattle.std.proofs.lemmas.List.Elements.{All-from_get_or, All-get_or, All-head, All-tail, All-weaker}
 use Rattle.std.proofs.lemmas.List.Folds.{list_any_none}
 use Rattle.std.proofs.lemmas.List.Sums.{sum_by-append}
-use Rattle.std.proofs.Math.Seq.{get_or-append_seam}
+use Rattle.std.proofs.Math.Seq.{get_or-append_seam, take-append_seam}
 use Rattle.csv.specs.Machine.{next_record}
 use Rattle.csv.specs.Reading.{default_config, records, records_from, strip_bom}
 use Rattle.csv.specs.Records.{field_at}
-use Rattle.csv.specs.Writing.{default_writer, field_text, fields_text, is_blank, needs_byte, row_text}
+use Rattle.csv.specs.Writing.{default_writer, field_text, fields_text, is_blank, needs_byte, read_back, row_body, row_text}
 use Rattle.csv.specs.declared.parser.State.TheVariants as st
-use Rattle.csv.proofs.RoundTrip.{read-write-many}
+use Rattle.csv.proofs.RoundTrip.{read-write, rows_text}
 use Rattle.octant_code.specs.Decimal.{decimal_read}
 use Rattle.octant_code.specs.Points.{site_at}
 use Rattle.octant_code.specs.Space.{IsInCube, Site, origin, same_coordinates}
 use Rattle.scene_file.specs.Bodies.{AreBodies, body_at, nobody, number_at, sites_of, total_mass}
-use Rattle.scene_file.specs.Scene.{bodies_after, body_of, joined, scene_of}
-use Rattle.scene_file.specs.Text.{body_text, text_of_scene}
+use Rattle.scene_file.specs.Moves.{IsPass, IsScene, SceneParts, after_passes, move_at, move_count, no_move, pass_at, shifted}
+use Rattle.scene_file.specs.Scene.{SoFar, entry_of, first_meeting, names, scene_after, scene_of, still, with_body, with_record}
+use Rattle.scene_file.specs.Text.{body_text, move_text, pass_text, text_of_scene}
 use Rattle.scene_file.specs.declared.bodies.Body.{Body}
+use Rattle.scene_file.specs.declared.entry.Entry.TheVariants as entry
+use Rattle.scene_file.specs.declared.moves.Move.{Move}
 use Rattle.octant_code.proofs.SeenPoints.{same_coordinates_true}
 use Rattle.scene_file.proofs.BodyLists.{total_mass-push}
+use Rattle.scene_file.proofs.Finding.{body_inside}
+use Rattle.scene_file.proofs.Meetings.{none_meet}
+use Rattle.scene_file.proofs.PassingRule.{after-length, move_more, moved_more, pass_more}
 use Rattle.scene_file.proofs.Records.{none_from}
+use Rattle.scene_file.proofs.Scenes.{accepted_more}
 
 -- the numbers of a body are within the ranges of their fields
 pub record IsInRanges (b : Body) : Type 0 where
@@ -97,42 +104,133 @@ row_is b h =
     rw (plain b.mass (omega (arith, h.mass)), plain b.at.x (omega (arith, h.x)), plain b.at.y (omega (arith, h.y)), plain b.at.z (omega (arith, h.z)))
     (append_assoc (codes "body") (flat_map (λ n. 44 ∷ decimal n) (b.mass ∷ b.at.x ∷ b.at.y ∷ b.at.z ∷ [])) (10 ∷ []))
 
--- the next record of a text that begins with that of a body
-next_row : (b : Body) (tail : List ℕ) → IsInRanges b
-    → next_record default_config st.StartRecord [] [] (body_text b ++ tail) ≡ Some (row_of b, st.StartRecord, tail)
-next_row b tail h =
-    subst (λ (t : List ℕ). next_record default_config st.StartRecord [] [] (t ++ tail) ≡ Some (row_of b, st.StartRecord, tail)) (row_is b h)
-    (read-write-many (codes "body") (decimal b.mass) (decimal b.at.x ∷ decimal b.at.y ∷ decimal b.at.z ∷ []) tail)
+-- the numbers of a move are within the ranges of their fields
+pub record IsMoveInRanges (m : Move) : Type 0 where
+  pub body : m.body ≤ 65535
+  pub x : m.to.x ≤ 2097151
+  pub y : m.to.y ≤ 2097151
+  pub z : m.to.z ≤ 2097151
 
+-- the fields of a move's record
+abbrev pub row_of_move : Move → List (List ℕ)
+row_of_move m = codes "move" ∷ decimal m.body ∷ decimal m.to.x ∷ decimal m.to.y ∷ decimal m.to.z ∷ []
+
+-- the text of a move's record is that which a writer of `csv` gives its fields
+move_row_is : (m : Move) → IsMoveInRanges m → row_text default_writer (row_of_move m) ≡ move_text m
+unfolding fields_text is_blank
+move_row_is m h =
+    rw (plain m.body (omega (arith, h.body)), plain m.to.x (omega (arith, h.x)), plain m.to.y (omega (arith, h.y)), plain m.to.z (omega (arith, h.z)))
+    (append_assoc (codes "move") (flat_map (λ n. 44 ∷ decimal n) (m.body ∷ m.to.x ∷ m.to.y ∷ m.to.z ∷ [])) (10 ∷ []))
+
+-- the fields of the record of a pass's end
+abbrev pub row_of_pass : List (List ℕ)
+row_of_pass = codes "pass" ∷ []
+
+pass_row_is : row_text default_writer row_of_pass ≡ codes "pass" ++ 10 ∷ []
+unfolding fields_text is_blank
+pass_row_is = refl
+
+-- the records of bodies, of a pass and of passes, before others
+abbrev pub body_rows : List Body → List (List (List ℕ)) → List (List (List ℕ))
+body_rows [] rows = rows
+body_rows (b ∷ bs) rows = row_of b ∷ body_rows bs rows
+
+abbrev pub pass_rows : List Move → List (List (List ℕ)) → List (List (List ℕ))
+pass_rows [] rows = row_of_pass ∷ rows
+pass_rows (m ∷ ms) rows = row_of_move m ∷ pass_rows ms rows
+
+abbrev pub passes_rows : List (List Move) → List (List (List ℕ))
+passes_rows [] = []
+passes_rows (p ∷ ps) = pass_rows p (passes_rows ps)
+
+-- each move of each pass is within its ranges
+abbrev pub AreInRanges : List (List Move) → Type 0
+AreInRanges passes = All (λ (moves : List Move). All IsMoveInRanges moves) passes
+
+-- the text is that of the records
+bodies_text : (bodies : List Body) (rows : List (List (List ℕ))) (text : List ℕ) → All IsInRanges bodies → text ≡ rows_text rows
+    → flat_map body_text bodies ++ text ≡ rows_text (body_rows bodies rows)
+unfolding rows_text
+bodies_text [] rows text h e = e
+bodies_text (b ∷ bs) rows text h e =
+    append_assoc (body_text b) (flat_map body_text bs) text ∙ ap (λ t. body_text b ++ t) (bodies_text bs rows text (All-tail IsInRanges b bs h) e)
+    ∙ ap (λ t. t ++ rows_text (body_rows bs rows)) (sym (row_is b (All-head IsInRanges b bs h)))
+
+one_pass_text : (moves : List Move) (rows : List (List (List ℕ))) (text : List ℕ) → All IsMoveInRanges moves → text ≡ rows_text rows
+    → pass_text moves ++ text ≡ rows_text (pass_rows moves rows)
+unfolding rows_text
+one_pass_text [] rows text h e = ap (λ t. (codes "pass" ++ 10 ∷ []) ++ t) e ∙ ap (λ t. t ++ rows_text rows) (sym pass_row_is)
+one_pass_text (m ∷ ms) rows text h e =
+    let end : List ℕ = codes "pass" ++ 10 ∷ [] in
+    ap (λ t. t ++ text) (append_assoc (move_text m) (flat_map move_text ms) end) ∙ append_assoc (move_text m) (flat_map move_text ms ++ end) text
+    ∙ ap (λ t. move_text m ++ t) (one_pass_text ms rows text (All-tail IsMoveInRanges m ms h) e)
+    ∙ ap (λ t. t ++ rows_text (pass_rows ms rows)) (sym (move_row_is m (All-head IsMoveInRanges m ms h)))
+
+passes_text : (passes : List (List Move)) → AreInRanges passes → flat_map pass_text passes ≡ rows_text (passes_rows passes)
+unfolding rows_text
+passes_text [] h = refl
+passes_text (p ∷ ps) h =
+    let P : List Move → Type 0 = λ moves. All IsMoveInRanges moves in
+    one_pass_text p (passes_rows ps) (flat_map pass_text ps) (All-head P p ps h) (passes_text ps (All-tail P p ps h))
+
+-- records that are written are read, with any number of steps to spare
 no_row : next_record default_config st.StartRecord [] [] [] ≡ None
 unfolding next_record
 no_row = refl
 
--- the records of the text of bodies
-rows_back : (bodies : List Body) (k : ℕ) → All IsInRanges bodies
-    → records_from default_config (length bodies + k) st.StartRecord (text_of_scene bodies) ≡ map row_of bodies
-unfolding records_from
-rows_back [] k h = none_from default_config st.StartRecord [] (0 + k) no_row
-rows_back (b ∷ bs) k h =
-    let e : length (b ∷ bs) + k ≡ suc (length bs + k) = omega arith in
-    rw (e, next_row b (text_of_scene bs) (All-head IsInRanges b bs h), rows_back bs k (All-tail IsInRanges b bs h)) refl
+rows_read : (rows : List (List (List ℕ))) (k : ℕ) → records_from default_config (length rows + k) st.StartRecord (rows_text rows) ≡ map read_back rows
+unfolding records_from rows_text
+rows_read [] k = none_from default_config st.StartRecord [] (0 + k) no_row
+rows_read (r ∷ rs) k =
+    let e : length (r ∷ rs) + k ≡ suc (length rs + k) = omega arith in
+    rw (e, read-write r (rows_text rs), rows_read rs k) refl
 
--- the text of one body more
-pub text_more : (bodies : List Body) (n : ℕ) (old new : List ℕ) → n < length bodies → old ≡ text_of_scene (take n bodies)
-    → new ≡ old ++ body_text (body_at bodies n)
-    → new ≡ text_of_scene (take (n + 1) bodies)
-text_more bodies n old new within before after =
-    let b = body_at bodies n in
-    let more : text_of_scene (take (n + 1) bodies) ≡ text_of_scene (take n bodies) ++ body_text b =
-    ap (λ l. text_of_scene l) (take_more bodies n nobody within) ∙ flat_map-append body_text (take n bodies) (b ∷ [])
-    ∙ ap (λ t. text_of_scene (take n bodies) ++ t) (append-nil (body_text b)) in
-    after ∙ ap (λ t. t ++ body_text b) before ∙ sym more
+-- each record of a scene has a field
+bodies_back : (bodies : List Body) (rows : List (List (List ℕ))) → map read_back rows ≡ rows → map read_back (body_rows bodies rows) ≡ body_rows bodies rows
+bodies_back [] rows e = e
+bodies_back (b ∷ bs) rows e = ap (λ (t : List (List (List ℕ))). row_of b ∷ t) (bodies_back bs rows e)
+
+pass_back : (moves : List Move) (rows : List (List (List ℕ))) → map read_back rows ≡ rows → map read_back (pass_rows moves rows) ≡ pass_rows moves rows
+pass_back [] rows e = ap (λ (t : List (List (List ℕ))). row_of_pass ∷ t) e
+pass_back (m ∷ ms) rows e = ap (λ (t : List (List (List ℕ))). row_of_move m ∷ t) (pass_back ms rows e)
+
+passes_back : (passes : List (List Move)) → map read_back (passes_rows passes) ≡ passes_rows passes
+passes_back [] = refl
+passes_back (p ∷ ps) = pass_back p (passes_rows ps) (passes_back ps)
+
+-- a record is not empty, so that there are no more records than bytes
+rows_few : (rows : List (List (List ℕ))) → length rows ≤ length (rows_text rows)
+unfolding rows_text
+rows_few [] = omega arith
+rows_few (r ∷ rs) =
+    let rest = rows_few rs in
+    let all = length-append (row_text default_writer r) (rows_text rs) in
+    let blank : List ℕ = if is_blank default_writer r then 34 ∷ 34 ∷ [] else [] in
+    let one = length-append (row_body default_writer r) (blank ++ (10 ∷ [])) in
+    let two = length-append blank (10 ∷ []) in
+    omega arith
+
+-- the text of one more of a list
+pub text_more : {X : Type 0} (f : X → List ℕ) (xs : List X) (n : ℕ) (d : X) (start old new : List ℕ) → n < length xs → old ≡ start ++ flat_map f (take n xs)
+    → new ≡ old ++ f (get_or xs n d) → new ≡ start ++ flat_map f (take (n + 1) xs)
+text_more f xs n d start old new within before after =
+    let x = get_or xs n d in
+    let more : flat_map f (take (n + 1) xs) ≡ flat_map f (take n xs) ++ f x =
+    ap (λ l. flat_map f l) (take_more xs n d within) ∙ flat_map-append f (take n xs) (x ∷ []) ∙ ap (λ t. flat_map f (take n xs) ++ t) (append-nil (f x)) in
+    after ∙ ap (λ t. t ++ f x) before ∙ append_assoc start (flat_map f (take n xs)) (f x) ∙ ap (λ t. start ++ t) (sym more)
 
 -- the text has no mark at its front
-unmarked : (bodies : List Body) → strip_bom (text_of_scene bodies) ≡ text_of_scene bodies
+unmarked_passes : (passes : List (List Move)) → strip_bom (flat_map pass_text passes) ≡ flat_map pass_text passes
 unfolding strip_bom
-unmarked [] = refl
-unmarked (b ∷ bs) = refl
+unmarked_passes [] = refl
+unmarked_passes ([] ∷ ps) = refl
+unmarked_passes ((m ∷ ms) ∷ ps) = refl
+
+unmarked : (bodies : List Body) (passes : List (List Move)) → strip_bom (flat_map body_text bodies ++ flat_map pass_text passes)
+    ≡ flat_map body_text bodies ++ flat_map pass_text passes
+unfolding strip_bom
+unmarked [] passes = unmarked_passes passes
+unmarked (b ∷ bs) passes = refl
 
 -- a number of 32 bits has at most ten digits
 digits_few : (n : ℕ) → n < 2 ^ 32 → length (decimal n) ≤ 10
@@ -152,18 +250,49 @@ body_short b h =
     let all = length-append (flat_map (λ n. 44 ∷ decimal n) (b.mass ∷ b.at.x ∷ b.at.y ∷ b.at.z ∷ [])) (10 ∷ []) in
     (omega arith, omega arith)
 
--- the text of bodies is short, and has a byte for each
-text_short : (bodies : List Body) → All IsInRanges bodies
-    → (length (text_of_scene bodies) ≤ 49 * length bodies) × (length bodies ≤ length (text_of_scene bodies))
-text_short [] h = (omega arith, omega arith)
-text_short (b ∷ bs) h =
+-- the texts of bodies and of passes are short
+bodies_short : (bodies : List Body) → All IsInRanges bodies → length (flat_map body_text bodies) ≤ 49 * length bodies
+bodies_short [] h = omega arith
+bodies_short (b ∷ bs) h =
     let first = body_short b (All-head IsInRanges b bs h) in
-    let rest = text_short bs (All-tail IsInRanges b bs h) in
-    let sum = length-append (body_text b) (text_of_scene bs) in
-    (omega (arith, first.0, rest.0), omega (arith, first.1, rest.1))
+    let rest = bodies_short bs (All-tail IsInRanges b bs h) in
+    let sum = length-append (body_text b) (flat_map body_text bs) in
+    omega (arith, first.0, rest)
 
--- the record of a body gives the body
-body_back : (number : ℕ) (b : Body) → IsInRanges b → body_of number (row_of b) ≡ Ok b
+move_short : (m : Move) → IsMoveInRanges m → length (move_text m) ≤ 49
+move_short m h =
+    let n = digits_few m.body (omega (arith, h.body)) in
+    let x = digits_few m.to.x (omega (arith, h.x)) in
+    let y = digits_few m.to.y (omega (arith, h.y)) in
+    let z = digits_few m.to.z (omega (arith, h.z)) in
+    let one = length-append (decimal m.body) ((44 ∷ decimal m.to.x) ++ ((44 ∷ decimal m.to.y) ++ ((44 ∷ decimal m.to.z) ++ []))) in
+    let two = length-append (decimal m.to.x) ((44 ∷ decimal m.to.y) ++ ((44 ∷ decimal m.to.z) ++ [])) in
+    let three = length-append (decimal m.to.y) ((44 ∷ decimal m.to.z) ++ []) in
+    let four = length-append (decimal m.to.z) [] in
+    let all = length-append (flat_map (λ n. 44 ∷ decimal n) (m.body ∷ m.to.x ∷ m.to.y ∷ m.to.z ∷ [])) (10 ∷ []) in
+    omega arith
+
+moves_short : (moves : List Move) → All IsMoveInRanges moves → length (flat_map move_text moves) ≤ 49 * length moves
+moves_short [] h = omega arith
+moves_short (m ∷ ms) h =
+    let first = move_short m (All-head IsMoveInRanges m ms h) in
+    let rest = moves_short ms (All-tail IsMoveInRanges m ms h) in
+    let sum = length-append (move_text m) (flat_map move_text ms) in
+    omega arith
+
+passes_short : (passes : List (List Move)) → AreInRanges passes → length (flat_map pass_text passes) ≤ 49 * move_count passes + 5 * length passes
+passes_short [] h = omega arith
+passes_short (p ∷ ps) h =
+    let P : List Move → Type 0 = λ moves. All IsMoveInRanges moves in
+    let first = moves_short p (All-head P p ps h) in
+    let rest = passes_short ps (All-tail P p ps h) in
+    let sum = length-append (pass_text p) (flat_map pass_text ps) in
+    let own = length-append (flat_map move_text p) (codes "pass" ++ 10 ∷ []) in
+    let counted : move_count (p ∷ ps) ≡ 0 + length p + move_count ps = sum_by-append (λ (m : List Move). length m) (p ∷ []) ps in
+    omega arith
+
+-- the record of a body says the body
+body_back : (number : ℕ) (b : Body) → IsInRanges b → entry_of number (row_of b) ≡ Ok (entry.Body b)
 unfolding field_at
 body_back number b h =
     rw (
@@ -173,6 +302,21 @@ body_back number b h =
       number_back b.at.z 2097151 h.z (omega arith),
       lt-ltb 0 b.mass h.massive,
     ) refl
+
+-- that of a move the move, and that of a pass's end the end
+move_back : (number : ℕ) (m : Move) → IsMoveInRanges m → entry_of number (row_of_move m) ≡ Ok (entry.Move m)
+unfolding field_at
+move_back number m h =
+    rw (
+      number_back m.body 65535 h.body (omega arith),
+      number_back m.to.x 2097151 h.x (omega arith),
+      number_back m.to.y 2097151 h.y (omega arith),
+      number_back m.to.z 2097151 h.z (omega arith),
+    ) refl
+
+end_back : (number : ℕ) → entry_of number row_of_pass ≡ Ok entry.Pass
+unfolding field_at
+end_back number = refl
 
 -- no body is found at a point where none is
 none_at : (bodies : List Body) (s : Site) (k : ℕ) → ((i : ℕ) → i < length bodies → site_at (sites_of bodies) i ≢ s)
@@ -196,7 +340,8 @@ free start more b rule = none_at start b.at 0 (λ i within same.
     (ap (λ l. get_or l i origin) sites ∙ early ∙ same ∙ sym (rw count at seam) ∙ ap (λ l. get_or l (length start) origin) (sym sites)))
 
 -- the next of bodies that keep the rule is accepted
-joined_back : (number : ℕ) (start more : List Body) (b : Body) → AreBodies (start ++ b ∷ more) → joined number start b ≡ Ok (start ++ b ∷ [])
+joined_back : (number : ℕ) (start more : List Body) (b : Body) → AreBodies (start ++ b ∷ more)
+    → with_body number (still start) b ≡ Ok (still (start ++ b ∷ []))
 joined_back number start more b rule =
     let all = length-append start (b ∷ more) in
     let few : length start < 65536 = omega (arith, rule.few) in
@@ -208,22 +353,119 @@ joined_back number start more b rule =
     rw (not_up_to 65536 (length start) few, not_up_to (2 ^ 40) (total_mass start + b.mass) small, free start more b rule) refl
 
 -- the records of bodies that keep the rule give these bodies
-all_back : (bodies start : List Body) (number : ℕ) → AreBodies (start ++ bodies) → All IsInRanges bodies
-    → bodies_after (map row_of bodies) number start ≡ Ok (start ++ bodies)
-unfolding bodies_after
-all_back [] start number rule h = rw (append-nil start) refl
-all_back (b ∷ bs) start number rule h =
+bodies_read : (bodies start : List Body) (rows : List (List (List ℕ))) (number : ℕ) → AreBodies (start ++ bodies) → All IsInRanges bodies
+    → scene_after (body_rows bodies rows) number (still start) ≡ scene_after rows (number + length bodies) (still (start ++ bodies))
+bodies_read [] start rows number rule h = rw (append-nil start, add-zero) refl
+bodies_read (b ∷ bs) start rows number rule h =
     let again = append_assoc start (b ∷ []) bs in
-    let rest = all_back bs (start ++ b ∷ []) (number + 1) (subst AreBodies (sym again) rule) (All-tail IsInRanges b bs h) in
-    rw (body_back number b (All-head IsInRanges b bs h), joined_back number start bs b rule) (rest ∙ ap Ok again)
+    let read : with_record number (still start) (row_of b) ≡ Ok (still (start ++ b ∷ [])) =
+    rw (body_back number b (All-head IsInRanges b bs h)) (joined_back number start bs b rule) in
+    let rest = bodies_read bs (start ++ b ∷ []) rows (number + 1) (subst AreBodies (sym again) rule) (All-tail IsInRanges b bs h) in
+    let sum : number + 1 + length bs ≡ number + length (b ∷ bs) = omega arith in
+    accepted_more (row_of b) (body_rows bs rows) number (still start) (still (start ++ b ∷ [])) read ∙ rw (sum, again) at rest
 
--- the text of bodies that keep the rule is the scene of these bodies
-pub scene_back : (bodies : List Body) → AreBodies bodies → All IsInRanges bodies → scene_of (text_of_scene bodies) ≡ Ok bodies
-scene_back bodies rule h =
-    let (short, some) = text_short bodies h in
-    let fits : length (text_of_scene bodies) ≤ 16777216 = omega (arith, rule.few) in
-    let fuel : length (text_of_scene bodies) + 1 ≡ length bodies + (length (text_of_scene bodies) + 1 - length bodies) = omega arith in
-    let rows : records default_config (text_of_scene bodies) ≡ map row_of bodies =
-    ap (λ n. records_from default_config n st.StartRecord (text_of_scene bodies)) fuel
-    ∙ rows_back bodies (length (text_of_scene bodies) + 1 - length bodies) h in
-    rw (not_below 16777216 (length (text_of_scene bodies)) fits, unmarked bodies, rows) (all_back bodies [] 1 rule h)
+-- a body that none of the moves names
+not_among : (moves : List Move) (n : ℕ) → ((i : ℕ) → i < length moves → (move_at moves i).body ≢ n) → names moves n ≡ false
+not_among [] n other = refl
+not_among (m ∷ ms) n other = elim (cases_Bool (m.body == n)) [
+  | inl same ↦ absurd (other 0 (omega arith) (eqb-true m.body n same))
+  | inr differ ↦ rw (differ, not_among ms n (λ i less. other (suc i) (omega arith))) refl
+]
+
+-- the records of a pass give the pass
+moves_read : (moves done : List Move) (rows : List (List (List ℕ))) (number : ℕ) (bodies : List Body) (passes : List (List Move))
+    → IsPass (after_passes passes bodies) (done ++ moves) → length passes < 1024 → move_count passes + length (done ++ moves) ≤ 262144
+    → All IsMoveInRanges moves
+    → (next : ℕ) × (scene_after (pass_rows moves rows) number (record { bodies = bodies; passes = passes; moves = done })
+    ≡ scene_after rows next (record { bodies = bodies; passes = passes ++ (done ++ moves) ∷ []; moves = [] }))
+moves_read [] done rows number bodies passes pass few few_moves h =
+    let so_far : SoFar = record { bodies = bodies; passes = passes; moves = done } in
+    let whole : IsPass (after_passes passes bodies) done = rw append-nil at pass in
+    let none : first_meeting [] (shifted done (after_passes passes bodies)) ≡ None = none_meet [] (shifted done (after_passes passes bodies)) whole.apart in
+    let read : with_record number so_far row_of_pass ≡ Ok (pass_more so_far) = rw (end_back number, not_up_to 1024 (length passes) few, none) refl in
+    (number + 1, accepted_more row_of_pass rows number so_far (pass_more so_far) read ∙ rw (append-nil done) refl)
+moves_read (m ∷ ms) done rows number bodies passes pass few few_moves h =
+    let so_far : SoFar = record { bodies = bodies; passes = passes; moves = done } in
+    let size = length-append done (m ∷ ms) in
+    let here : move_at (done ++ m ∷ ms) (length done) ≡ m = get_or-append_seam done m ms no_move in
+    let known : m.body < length bodies = rw (here, after-length passes bodies) at (All-get_or (λ (m : Move). m.body < length (after_passes passes bodies))
+    (done ++ m ∷ ms) (length done) no_move (omega arith) pass.known) in
+    let new : names done m.body ≡ false = not_among done m.body (λ i less e. pass.once i (length done) less (omega arith)
+    (ap (λ (y : Move). y.body) (get_or_append_left done (m ∷ ms) no_move i less) ∙ e ∙ ap (λ (y : Move). y.body) (sym here))) in
+    let read : with_record number so_far (row_of_move m) ≡ Ok (moved_more so_far m) =
+    rw (move_back number m (All-head IsMoveInRanges m ms h)) (move_more number so_far m (omega arith) known new) in
+    let again = append_assoc done (m ∷ []) ms in
+    let rest = moves_read ms (done ++ m ∷ []) rows (number + 1) bodies passes (subst (IsPass (after_passes passes bodies)) (sym again) pass) few
+    (rw again few_moves) (All-tail IsMoveInRanges m ms h) in (
+      rest.0,
+      accepted_more (row_of_move m) (pass_rows ms rows) number so_far (moved_more so_far m) read
+          ∙ subst (λ (l : List Move). scene_after (pass_rows ms rows) (number + 1) (moved_more so_far m)
+          ≡ scene_after rows rest.0 (record { bodies = bodies; passes = passes ++ l ∷ []; moves = [] })) again rest.1,
+    )
+
+-- the records of passes give the scene
+passes_read : (passes start : List (List Move)) (number : ℕ) (bodies : List Body) → IsScene (record { bodies = bodies; passes = start ++ passes })
+    → AreInRanges passes
+    → scene_after (passes_rows passes) number (record { bodies = bodies; passes = start; moves = [] }) ≡ Ok (record { bodies = bodies; passes = start ++ passes })
+unfolding scene_after
+passes_read [] start number bodies scene h = rw (append-nil start) refl
+passes_read (p ∷ ps) start number bodies scene h =
+    let P : List Move → Type 0 = λ moves. All IsMoveInRanges moves in
+    let again = append_assoc start (p ∷ []) ps in
+    let size = length-append start (p ∷ ps) in
+    let few = scene.few_passes in
+    let own : IsPass (after_passes start bodies) p =
+    rw (take-append_seam start (p ∷ ps), get_or-append_seam start p ps []) at (scene.passes (length start) (omega arith)) in
+    let counted : move_count (start ++ p ∷ ps) ≡ move_count start + move_count (p ∷ ps) = sum_by-append (λ (m : List Move). length m) start (p ∷ ps) in
+    let first_of : move_count (p ∷ ps) ≡ 0 + length p + move_count ps = sum_by-append (λ (m : List Move). length m) (p ∷ []) ps in
+    let some : move_count start + length p ≤ 262144 = omega (arith, scene.few_moves, counted, first_of) in
+    let first = moves_read p [] (passes_rows ps) number bodies start own (omega arith) some (All-head P p ps h) in
+    first.1 ∙ rw again at (passes_read ps (start ++ p ∷ []) first.0 bodies (subst (λ (l : List (List Move)). IsScene (record { bodies = bodies; passes = l }))
+    (sym again) scene) (All-tail P p ps h))
+
+-- the moves of a scene are within their ranges
+moves_within : (scene : SceneParts) → IsScene scene → AreInRanges scene.passes
+moves_within scene rule =
+    All-from_get_or (λ (moves : List Move). All IsMoveInRanges moves) scene.passes [] (λ i within.
+    let own = rule.passes i within in
+    let inside = All-get_or (λ (moves : List Move). All (λ (m : Move). IsInCube m.to) moves) scene.passes i [] within rule.in_cube in
+    All-from_get_or IsMoveInRanges (pass_at scene.passes i) no_move (λ j less.
+    let known = All-get_or (λ (m : Move). m.body < length (after_passes (take i scene.passes) scene.bodies)) (pass_at scene.passes i) j no_move less own.known in
+    let named : (move_at (pass_at scene.passes i) j).body < length scene.bodies = rw (after-length (take i scene.passes) scene.bodies) at known in
+    let few = rule.bodies.few in
+    let cube = All-get_or (λ (m : Move). IsInCube m.to) (pass_at scene.passes i) j no_move less inside in
+    record {
+      body = omega arith;
+      x = omega (arith, cube.x_fits);
+      y = omega (arith, cube.y_fits);
+      z = omega (arith, cube.z_fits);
+    }))
+
+-- the bodies are within theirs, where their masses are numbers of 32 bits
+bodies_within : (bodies : List Body) → AreBodies bodies → All (λ (b : Body). b.mass < 2 ^ 32) bodies → All IsInRanges bodies
+bodies_within bodies rule small =
+    All-from_get_or IsInRanges bodies nobody (λ i within.
+    in_ranges (body_at bodies i) (body_at bodies i) refl (All-get_or (λ (b : Body). 0 < b.mass) bodies i nobody within rule.massive)
+    (All-get_or (λ (b : Body). b.mass < 2 ^ 32) bodies i nobody within small) (body_inside bodies i rule.in_cube within))
+
+-- the text of a scene reads as the scene
+pub scene_back : (scene : SceneParts) → IsScene scene → All (λ (b : Body). b.mass < 2 ^ 32) scene.bodies → scene_of (text_of_scene scene) ≡ Ok scene
+scene_back scene rule small =
+    let bodies = scene.bodies in
+    let passes = scene.passes in
+    let h = bodies_within bodies rule.bodies small in
+    let m = moves_within scene rule in
+    let rows = body_rows bodies (passes_rows passes) in
+    let text : text_of_scene scene ≡ rows_text rows = bodies_text bodies (passes_rows passes) (flat_map pass_text passes) h (passes_text passes m) in
+    let short_bodies = bodies_short bodies h in
+    let short_passes = passes_short passes m in
+    let sum = length-append (flat_map body_text bodies) (flat_map pass_text passes) in
+    let fits : length (text_of_scene scene) ≤ 16777216 = omega (arith, rule.bodies.few, rule.few_moves, rule.few_passes) in
+    let few : length rows ≤ length (text_of_scene scene) = rw text (rows_few rows) in
+    let fuel : length (text_of_scene scene) + 1 ≡ length rows + (length (text_of_scene scene) + 1 - length rows) = omega arith in
+    let read : records default_config (text_of_scene scene) ≡ rows =
+    ap (λ n. records_from default_config n st.StartRecord (text_of_scene scene)) fuel
+    ∙ ap (λ t. records_from default_config (length rows + (length (text_of_scene scene) + 1 - length rows)) st.StartRecord t) text
+    ∙ rows_read rows (length (text_of_scene scene) + 1 - length rows) ∙ bodies_back bodies (passes_rows passes) (passes_back passes) in
+    rw (not_below 16777216 (length (text_of_scene scene)) fits, unmarked bodies passes, read)
+    (bodies_read bodies [] (passes_rows passes) 1 rule.bodies h ∙ passes_read passes [] (1 + length bodies) bodies rule m)

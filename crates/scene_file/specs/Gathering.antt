@@ -6,7 +6,6 @@ use Rattle.octant_code.specs.Points.{AreApart}
 use Rattle.octant_code.specs.Space.{IsInCube}
 use Rattle.octant_code.specs.declared.limits.TheConstants.{MOST_BODIES}
 use Rattle.scene_file.specs.Bodies.{sites_of, total_mass}
-use Rattle.scene_file.specs.Scene.{body_of, then_with}
 use Rattle.scene_file.specs.declared.bodies.Body.{Body}
 use Rattle.scene_file.specs.declared.fault.SceneFault.{SceneFault}
 use Rattle.scene_file.specs.declared.fault.SceneFault.TheVariants as fault
@@ -25,10 +24,6 @@ gathered number bodies body =
     if nat_le MOST_BODIES (length bodies) then Err (fault.TooMany number)
     else if nat_le (2 ^ 40) (total_mass bodies + body.mass) then Err (fault.MassTotal number)
     else Ok (bodies ++ body ∷ [])
-
--- the bodies with that of the record of this number, wherever it is
-abbrev pub gathered_with : ℕ → List Body → List (List ℕ) → Result (List Body) SceneFault
-gathered_with number bodies fields = then_with (gathered number bodies) (body_of number fields)
 
 -- the points are apart; or the fault names the first body at the point of an earlier one, and its record; or memory ran out
 abbrev pub IsPointTest : List Body → Result (Unit {0}) SceneFault → Type 0

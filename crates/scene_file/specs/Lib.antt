@@ -1,5 +1,9 @@
 pub mod Bodies
+pub mod Moves
 pub mod Scene
+pub mod Entries
 pub mod Gathering
+pub mod Reading
+pub mod Passing
 pub mod Text
 pub mod Made

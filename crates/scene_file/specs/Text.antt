@@ -1,11 +1,21 @@
 -- The text of a scene.
 use Rattle.std.specs.Prelude.{ℕ, List, [], ◌∷◌, ◌++◌, codes, decimal, flat_map}
+use Rattle.scene_file.specs.Moves.{SceneParts}
 use Rattle.scene_file.specs.declared.bodies.Body.{Body}
+use Rattle.scene_file.specs.declared.moves.Move.{Move}
 
 -- the record of a body: its word, its mass and its coordinates, each after a comma and without leading zeros, and a newline
 abbrev pub body_text : Body → List ℕ
 body_text body = codes "body" ++ (flat_map (λ n. 44 ∷ decimal n) (body.mass ∷ body.at.x ∷ body.at.y ∷ body.at.z ∷ []) ++ (10 ∷ []))
 
--- the records of bodies, one after another
-abbrev pub text_of_scene : List Body → List ℕ
-text_of_scene bodies = flat_map body_text bodies
+-- the record of a move: its word, the body's number and the point, in the same way
+abbrev pub move_text : Move → List ℕ
+move_text move = codes "move" ++ (flat_map (λ n. 44 ∷ decimal n) (move.body ∷ move.to.x ∷ move.to.y ∷ move.to.z ∷ []) ++ (10 ∷ []))
+
+-- the records of a pass: those of its moves, one after another, and that of its end
+abbrev pub pass_text : List Move → List ℕ
+pass_text moves = flat_map move_text moves ++ (codes "pass" ++ 10 ∷ [])
+
+-- the records of a scene: those of its bodies, and then those of its passes
+abbrev pub text_of_scene : SceneParts → List ℕ
+text_of_scene scene = flat_map body_text scene.bodies ++ flat_map pass_text scene.passes

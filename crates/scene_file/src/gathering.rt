@@ -1,10 +1,26 @@
 //! The bodies of the records that were read so far.
 
+ghost use Rattle.std.specs.Prelude.{◌≡◌, ◌≤◌, length};
+ghost use Rattle.scene_file.specs.Bodies.{number_at};
+
 use crate::bodies::{Bodies, Body, points_of};
 use crate::fault::SceneFault;
-use octant_code::{Distinct, MOST_BODIES, OutOfMemory, Points};
+use octant_code::{Distinct, MOST_BODIES, OutOfMemory, Point, Points};
 use std::alloc::Global;
 use std::marker::Model;
+
+// The number of the first body at a point.
+fn number_at(bodies: &[Body], at: Point) -> Option<u32>
+    requires { length bodies.now ≤ MOST_BODIES }
+    ensures { result ≡ number_at bodies.now at }
+{
+    for (i, body) in bodies.iter().enumerate() {
+        if body.at == at {
+            return Some(i as u32);
+        }
+    }
+    None
+}
 
 // The bound below which the total mass stays.
 const MASS_BOUND: u64 = 1 << 40;
@@ -31,12 +47,13 @@ impl Model for Gathering {
 }
 
 impl Gathering {
-    ghost use Rattle.std.specs.Prelude.{◌≡◌, [], ◌<◌, IfOk, OnErr};
+    ghost use Rattle.std.specs.Prelude.{◌≡◌, [], ◌<◌, Err, IfOk, OnErr, false};
     ghost use Rattle.octant_code.specs.Points.{AreApart};
     ghost use Rattle.octant_code.specs.Space.{IsInCube};
-    ghost use Rattle.scene_file.specs.Bodies.{sites_of};
+    ghost use Rattle.scene_file.specs.Bodies.{AreBodies, sites_of};
     ghost use Rattle.scene_file.specs.Gathering.{IsPointTest, gathered};
-    ghost use Rattle.scene_file.specs.Scene.{Adds};
+    ghost use Rattle.scene_file.specs.Scene.{SoFar, is_still, with_body};
+    ghost use Rattle.scene_file.specs.Reading.{Adds};
 
     /// No body, with room for so many.
     pub fn new(alloc: Global, room: usize) -> Result<Gathering, OutOfMemory>
@@ -67,6 +84,31 @@ impl Gathering {
         }
         self.total = total;
         Ok(())
+    }
+
+    /// The fault of a body behind a move or a pass, whose record's number is told.
+    pub fn late(&self, number: u32, body: &Body) -> SceneFault
+        ensures { (so_far : SoFar) → so_far.bodies ≡ self.now → is_still so_far ≡ false → with_body number so_far body.now ≡ Err result }
+    {
+        if MOST_BODIES as usize <= self.list.len() {
+            return SceneFault::TooMany(number);
+        }
+        if self.total + u64::from(body.mass) >= MASS_BOUND {
+            return SceneFault::MassTotal(number);
+        }
+        match number_at(&self.list, body.at) {
+            Some(earlier) => SceneFault::Coincident(number, earlier, self.list.len() as u32),
+            None => SceneFault::BodyAfterMove(number),
+        }
+    }
+
+    /// The bodies, one after another, where no two are at one point.
+    pub fn bodies(&self) -> &[Body]
+        requires { AreApart (sites_of self.now) }
+        ensures value { result.now ≡ self.now }
+        ensures rule { AreBodies self.now }
+    {
+        &self.list
     }
 
     /// Tests whether no two bodies are at one point. The fault names the first record whose body is

@@ -7,6 +7,7 @@ ghost use Rattle.scene_file.specs.Bodies.{sites_of};
 ghost use Rattle.scene_file.specs.Made.{code_of, codes_of, every_third, made_bodies, made_body, site_of_code};
 
 use crate::bodies::{Bodies, Body};
+use crate::passes::Passes;
 use crate::scene::Scene;
 use octant_code::{LEVELS, MOST_BODIES, OutOfMemory, Point};
 use std::alloc::Global;
@@ -83,5 +84,6 @@ pub fn made_scene(alloc: Global, count: u32, seed: u64, shape: Shape) -> Result<
     }
     Ok(Scene {
         bodies: Bodies::of(list),
+        passes: Passes::none(alloc),
     })
 }

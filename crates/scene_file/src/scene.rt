@@ -1,21 +1,35 @@
 //! The reading of a scene's bytes.
 
-ghost use Rattle.std.specs.Prelude.{◌≡◌, ◌≤◌, [], length};
-ghost use Rattle.scene_file.specs.Scene.{Gives, Reads, bodies_after, records_of, scene_of};
+ghost use Rattle.std.specs.Prelude.{◌≤◌, length};
+ghost use Rattle.scene_file.specs.Scene.{Reads, nothing, records_of, scene_after, scene_of};
 
 use crate::bodies::Bodies;
 use crate::fault::SceneFault;
-use crate::gathering::Gathering;
-use crate::record::add_record;
+use crate::passes::Passes;
+use crate::reading::Reading;
 use csv::{ByteRecord, ErrorKind, ReaderBuilder};
 use octant_code::MOST_BODIES;
 use std::alloc::Global;
+use std::marker::Model;
 
-/// A scene that was accepted.
+/// A scene that was accepted: bodies, and passes each of which can be one over the bodies after
+/// those before it. It has at most 1,024 passes, and these at most 262,144 moves in all.
 #[derive(Debug, Drop)]
 pub struct Scene {
     /// The bodies, in the order of their records.
     pub bodies: Bodies,
+    /// The passes, in the order of their records.
+    pub passes: Passes,
+}
+
+impl Model for Scene {
+    ghost use Rattle.scene_file.specs.Moves.{IsScene, SceneParts};
+
+    ghost Value = { SceneParts };
+
+    ghost view = { λ s. record { bodies = s.bodies; passes = s.passes } };
+
+    ghost invariant = { λ s. IsScene (record { bodies = s.bodies; passes = s.passes }) };
 }
 
 /// How many bytes a scene may have.
@@ -26,30 +40,30 @@ pub const MOST_BYTES: usize = 16_777_216;
 // is moved while they are read.
 const LEAST_RECORD: usize = 13;
 
-// The bodies of the records of these bytes, or the first fault. One row serves all records.
-fn read_bodies(alloc: Global, bytes: &[u8]) -> Result<Bodies, SceneFault>
+// The scene of the records of these bytes, or the first fault. One row serves all records.
+fn read_records(alloc: Global, bytes: &[u8]) -> Result<Scene, SceneFault>
     requires { length bytes.now ≤ MOST_BYTES }
-    ensures { Gives result (bodies_after (records_of bytes.now) 1 []) }
+    ensures { Reads result (scene_after (records_of bytes.now) 1 nothing) }
 {
     let mut reader = ReaderBuilder::new()
         .has_headers(false)
         .flexible(true)
         .from_reader(alloc, bytes);
     let room = (MOST_BODIES as usize).min((bytes.len() + 1) / LEAST_RECORD);
-    let mut gathering = Gathering::new(alloc, room)?;
+    let mut reading = Reading::new(alloc, room)?;
     let mut row = ByteRecord::new(alloc);
     for number in 1..u32::MAX {
         match reader.read_byte_record(&mut row) {
-            Ok(true) => match add_record(&mut gathering, number, &row) {
+            Ok(true) => match reading.add(alloc, number, &row) {
                 Ok(()) => {}
                 // A body at the point of an earlier one comes before this fault.
-                Err(fault) => match gathering.test_points(alloc) {
+                Err(fault) => match reading.test_points(alloc) {
                     Ok(()) => return Err(fault),
                     Err(first) => return Err(first),
                 },
             },
-            Ok(false) => match gathering.test_points(alloc) {
-                Ok(()) => return Ok(gathering.finish()),
+            Ok(false) => match reading.test_points(alloc) {
+                Ok(()) => return reading.finish(alloc, number),
                 Err(fault) => return Err(fault),
             },
             Err(error) => match error.into_kind() {
@@ -70,6 +84,5 @@ pub fn read_scene(alloc: Global, bytes: &[u8]) -> Result<Scene, SceneFault>
     if bytes.len() > MOST_BYTES {
         return Err(SceneFault::TooLong);
     }
-    let bodies = read_bodies(alloc, bytes)?;
-    Ok(Scene { bodies })
+    read_records(alloc, bytes)
 }

@@ -1,10 +1,12 @@
 //! The text of a scene.
 
-ghost use Rattle.std.specs.Prelude.{◌≡◌, ◌∷◌, ◌++◌, IfOk, Ok, OnOk, decimal};
+ghost use Rattle.std.specs.Prelude.{◌≡◌, ◌∷◌, ◌++◌, ◌<◌, ◌^◌, All, IfOk, Ok, OnOk, decimal, flat_map};
 ghost use Rattle.scene_file.specs.Scene.{scene_of};
-ghost use Rattle.scene_file.specs.Text.{body_text, text_of_scene};
+ghost use Rattle.scene_file.specs.Text.{body_text, move_text, pass_text, text_of_scene};
 
-use crate::bodies::Body;
+use crate::bodies::{Bodies, Body};
+use crate::moves::Move;
+use crate::passes::Passes;
 use crate::scene::Scene;
 use itoa::Buffer;
 use octant_code::OutOfMemory;
@@ -33,15 +35,60 @@ fn push_body(text: &mut Vec<u8>, body: &Body) -> Result<(), OutOfMemory>
     Ok(())
 }
 
-/// The text of a scene: the records of its bodies in the order of their numbers, each with its line
-/// end, and numbers without leading zeros. It is read as the same scene.
+// Appends the record of a move.
+fn push_move(text: &mut Vec<u8>, step: &Move) -> Result<(), OutOfMemory>
+    ensures { OnOk result (text.new.items ≡ text.old.items ++ move_text step.now) }
+{
+    text.extend_from_slice(b"move")?;
+    push_number(text, step.body)?;
+    push_number(text, step.to.x)?;
+    push_number(text, step.to.y)?;
+    push_number(text, step.to.z)?;
+    text.push(b'\n')?;
+    Ok(())
+}
+
+// Appends the records of a pass.
+fn push_pass(text: &mut Vec<u8>, moves: &[Move]) -> Result<(), OutOfMemory>
+    ensures { OnOk result (text.new.items ≡ text.old.items ++ pass_text moves.now) }
+{
+    for step in moves {
+        push_move(text, step)?;
+    }
+    text.extend_from_slice(b"pass\n")?;
+    Ok(())
+}
+
+// Appends the records of bodies.
+fn push_bodies(text: &mut Vec<u8>, bodies: &Bodies) -> Result<(), OutOfMemory>
+    ensures text { OnOk result (text.new.items ≡ text.old.items ++ flat_map body_text bodies.now) }
+    ensures masses { OnOk result (All (λ b. b.mass < 2 ^ 32) bodies.now) }
+{
+    for n in 0..bodies.len() {
+        push_body(text, &bodies.get(n))?;
+    }
+    Ok(())
+}
+
+// Appends the records of passes.
+fn push_passes(text: &mut Vec<u8>, passes: &Passes) -> Result<(), OutOfMemory>
+    ensures { OnOk result (text.new.items ≡ text.old.items ++ flat_map pass_text passes.now) }
+{
+    for i in 0..passes.len() {
+        push_pass(text, passes.pass(i))?;
+    }
+    Ok(())
+}
+
+/// The text of a scene: the records of its bodies in the order of their numbers, and then those of
+/// each pass, its moves in their order and its end. Each has its line end, and numbers have no leading
+/// zeros. It is read as the same scene.
 pub fn scene_text(alloc: Global, scene: &Scene) -> Result<Vec<u8>, OutOfMemory>
-    ensures value { IfOk result (λ text. text.items ≡ text_of_scene scene.now.bodies) }
-    ensures read_back { IfOk result (λ text. scene_of text.items ≡ Ok scene.now.bodies) }
+    ensures value { IfOk result (λ text. text.items ≡ text_of_scene scene.now) }
+    ensures read_back { IfOk result (λ text. scene_of text.items ≡ Ok scene.now) }
 {
     let mut text = Vec::new(alloc);
-    for n in 0..scene.bodies.len() {
-        push_body(&mut text, &scene.bodies.get(n))?;
-    }
+    push_bodies(&mut text, &scene.bodies)?;
+    push_passes(&mut text, &scene.passes)?;
     Ok(text)
 }

@@ -4,22 +4,25 @@ use Rattle.csv.specs.Reading.{Reached, default_config, records_from, strip_bom}
 use Rattle.csv.specs.Records.{fields_of}
 use Rattle.csv.specs.declared.parser.State.TheVariants as st
 use Rattle.csv.proofs.ReadFacts.{rows-end, rows-more}
-use Rattle.scene_file.specs.Gathering.{IsPointTest, gathered_with}
+use Rattle.octant_code.specs.Points.{AreApart}
+use Rattle.scene_file.specs.Bodies.{sites_of}
+use Rattle.scene_file.specs.Gathering.{IsPointTest}
+use Rattle.scene_file.specs.Reading.{gathered_with}
+use Rattle.scene_file.specs.Scene.{nothing, records_of, scene_after}
 use Rattle.scene_file.specs.declared.bodies.Body.{Body}
-use Rattle.scene_file.specs.Scene.{bodies_after, records_of}
 use Rattle.scene_file.proofs.Records.{count, records_front, records_all, strip_bom_short}
 use Rattle.scene_file.proofs.Gatherings.{barred_at, of_more, of_none, told_first}
 use Rattle.scene_file.proofs.Scenes.{fault_is, refused_at}
-use Rattle.scene_file.proofs.scene.read_bodies.Goals as goal
-use Rattle.scene_file.proofs.scene.read_bodies.Goals.{In-Err-add_record, In-Ok-false}
+use Rattle.scene_file.proofs.scene.read_records.Goals as goal
+use Rattle.scene_file.proofs.scene.read_records.Goals.{In-Err-add, In-Ok-false}
 
 pub loop-number-init : goal.loop-number-init
-unfolding Reached bodies_after
+unfolding Reached
 loop-number-init c =
     let made = c.from_reader-reader.ensures in
     let headers = c.has_headers.ensures in
     let flexible = c.flexible.ensures in
-    rw c.in_ok-gathering.ensures (
+    rw c.in_ok-reading.ensures (
       rw (flexible, headers) at made.trim ∙ c.new.ensures.trim,
       inr (inr (rw (flexible, headers) at made.has_headers, made.headers)),
       rw (flexible, headers) at made.config ∙ c.new.ensures.config,
@@ -48,12 +51,12 @@ loop-number-preserved c =
       more.1,
       inv.6 ++ fields ∷ [],
       more.2,
-      of_more inv.6 fields c.loop-number.gathering c.add_record.new.gathering c.loop-number.number inv.8 inv.9 c.in-Ok.ensures.step,
+      of_more inv.6 fields c.loop-number.reading c.add.new.self c.loop-number.number inv.8 inv.9 c.in-Ok.ensures.step,
       rw (length-append, inv.9) refl,
     )
 
 -- the records are those before, the one that has a fault, and others
-whole : (c : In-Err-add_record) → (rest : List (List (List ℕ)))
+whole : (c : In-Err-add) → (rest : List (List (List ℕ)))
     × (records_of c.args.bytes.now ≡ c.loop-number.invariant.6 ++ fields_of c.read_byte_record.new.row ∷ [] ++ rest)
 whole c =
     let inv = c.loop-number.invariant in
@@ -70,22 +73,23 @@ returns-in-Ok-test_points c =
     let inv = c.loop-number.invariant in
     let fields = fields_of c.read_byte_record.new.row in
     let all = records_of c.args.bytes.now in
-    let bodies = c.loop-number.gathering in
-    let f = c.in-Err-add_record.fault in
-    let (rest, is_whole) = whole (goal.at.returns-in-Ok-test_points c).In-Err-add_record in
-    let apart = rw c.in-Err-add_record.ensures.kept at c.in-Ok-test_points.ensures in
-    let accepted = inv.8.accepted apart in
-    fault_is f (gathered_with c.loop-number.number bodies fields) (bodies_after all 1 []) c.in-Err-add_record.ensures.step
-    (λ e. refused_at all inv.6 rest fields bodies c.loop-number.number f is_whole accepted inv.9 (barred_at c.loop-number.number bodies fields f e))
+    let old = c.loop-number.reading in
+    let number = c.loop-number.number in
+    let f = c.in-Err-add.fault in
+    let (rest, is_whole) = whole (goal.at.returns-in-Ok-test_points c).In-Err-add in
+    let apart : AreApart (sites_of old.bodies) = rw c.in-Err-add.ensures.kept at c.in-Ok-test_points.ensures in
+    let front = is_whole ∙ append_assoc inv.6 (fields ∷ []) rest in
+    fault_is f (gathered_with number old fields) (scene_after all 1 nothing) (c.in-Err-add.ensures.step apart)
+    (λ e. rw (front, inv.8.accepted apart (fields ∷ rest), ← inv.9) (refused_at fields rest number old f (barred_at number old fields f e)))
 
 pub returns-in-Err-test_points : goal.returns-in-Err-test_points
 returns-in-Err-test_points c =
     let inv = c.loop-number.invariant in
     let fields = fields_of c.read_byte_record.new.row in
-    let (rest, is_whole) = whole (goal.at.returns-in-Err-test_points c).In-Err-add_record in
-    told_first (records_of c.args.bytes.now) inv.6 (fields ∷ rest) c.loop-number.gathering c.in-Err-test_points.first
+    let (rest, is_whole) = whole (goal.at.returns-in-Err-test_points c).In-Err-add in
+    told_first (records_of c.args.bytes.now) inv.6 (fields ∷ rest) c.loop-number.reading c.in-Err-test_points.first
     (is_whole ∙ append_assoc inv.6 (fields ∷ []) rest) inv.8
-    (subst (λ (v : List Body). IsPointTest v (Err c.in-Err-test_points.first)) c.in-Err-add_record.ensures.kept c.in-Err-test_points.ensures)
+    (subst (λ (v : List Body). IsPointTest v (Err c.in-Err-test_points.first)) c.in-Err-add.ensures.kept c.in-Err-test_points.ensures)
 
 -- all records are those before the end
 ended : (c : In-Ok-false) → records_of c.args.bytes.now ≡ c.loop-number.invariant.6
@@ -96,13 +100,16 @@ ended c =
     records_all default_config c.loop-number.reader.state (strip_bom c.args.bytes.now) inv.4 inv.6 inv.7 none
 
 pub returns-in-Ok-test_points-2 : goal.returns-in-Ok-test_points-2
+unfolding scene_after
 returns-in-Ok-test_points-2 c =
-    rw (ended (goal.at.returns-in-Ok-test_points-2 c).In-Ok-false, c.finish.ensures) (c.loop-number.invariant.8.accepted c.in-Ok-test_points-2.ensures)
+    let inv = c.loop-number.invariant in
+    let rows : records_of c.args.bytes.now ≡ inv.6 ++ [] = ended (goal.at.returns-in-Ok-test_points-2 c).In-Ok-false ∙ sym (append-nil inv.6) in
+    rw (rows, inv.8.accepted c.in-Ok-test_points-2.ensures [], ← inv.9) c.finish.ensures
 
 pub returns-in-Err-test_points-2 : goal.returns-in-Err-test_points-2
 returns-in-Err-test_points-2 c =
     let inv = c.loop-number.invariant in
-    told_first (records_of c.args.bytes.now) inv.6 [] c.loop-number.gathering c.in-Err-test_points-2.fault
+    told_first (records_of c.args.bytes.now) inv.6 [] c.loop-number.reading c.in-Err-test_points-2.fault
     (ended (goal.at.returns-in-Err-test_points-2 c).In-Ok-false ∙ sym (append-nil inv.6)) inv.8 c.in-Err-test_points-2.ensures
 
 pub unreachable-requires-2 : goal.unreachable-requires-2
