@@ -18,7 +18,7 @@ mod one_thread;
 ghost use Rattle.bh_model.specs.Plans.{HasWorkers};
 
 use bh_outside::{Input, StdSource, read_all};
-use frame_core::{Builder, first_shares};
+use frame_core::first_shares;
 use free_tree::FreeYard;
 use gate::NotingGate;
 use locked_tree::LockedYard;
@@ -119,48 +119,137 @@ fn phases_of<R: Clock>(gate: &NotingGate<'_, R>, built: u64, freed: u64) -> Phas
     }
 }
 
-/// The times of the phases of one build by so many workers of a builder. UPDATE makes a first tree as
-/// LOCAL does.
-fn time_builder<R: Clock + Threads + Wait + Sync>(
+/// The times of the phases of one build by so many workers of ORIG.
+fn time_orig<R: Clock + Threads + Wait + Sync>(
     rt: &R,
     alloc: Global,
     points: &Arc<Points>,
-    builder: Builder,
     workers: u32,
 ) -> anyhow::Result<Phases>
     requires { HasWorkers workers }
 {
     let shares = first_shares(alloc, workers, points.len())?;
-    let mut locked = LockedYard::new();
-    let mut free = FreeYard::new();
+    let mut yard = LockedYard::new();
     let start = Instant::now(rt)?;
     let gate = NotingGate::new(rt, start);
-    let tree = match builder {
-        Builder::Orig => orig_build::build(rt, alloc, &mut locked, points, &shares, &gate)?,
-        Builder::Local | Builder::Update => {
-            local_build::build(rt, alloc, &mut free, points, &shares, &gate)?
-        }
-        Builder::Partree => partree_merge::build(rt, alloc, &mut free, points, &shares, &gate)?,
-        Builder::Space => space_split::build(rt, alloc, points, workers, &gate)?,
-    };
+    let tree = orig_build::build(rt, alloc, &mut yard, points, &shares, &gate)?;
     let built = since(rt, start)?;
     drop(tree);
     let freed = since(rt, start)?;
     Ok(phases_of(&gate, built, freed))
 }
 
-/// The times of a builder's phases with 1 to 4 workers.
-fn time_workers<R: Clock + Threads + Wait + Sync>(
+/// The times of the phases of ORIG with 1 to 4 workers.
+fn orig_by_workers<R: Clock + Threads + Wait + Sync>(
     rt: &R,
     alloc: Global,
     points: &Arc<Points>,
-    builder: Builder,
 ) -> anyhow::Result<ByWorkers> {
     Ok(ByWorkers {
-        one: time_builder(rt, alloc, points, builder, 1)?,
-        two: time_builder(rt, alloc, points, builder, 2)?,
-        three: time_builder(rt, alloc, points, builder, 3)?,
-        four: time_builder(rt, alloc, points, builder, 4)?,
+        one: time_orig(rt, alloc, points, 1)?,
+        two: time_orig(rt, alloc, points, 2)?,
+        three: time_orig(rt, alloc, points, 3)?,
+        four: time_orig(rt, alloc, points, 4)?,
+    })
+}
+
+/// The times of the phases of one build by so many workers of LOCAL.
+fn time_local<R: Clock + Threads + Sync>(
+    rt: &R,
+    alloc: Global,
+    points: &Arc<Points>,
+    workers: u32,
+) -> anyhow::Result<Phases>
+    requires { HasWorkers workers }
+{
+    let shares = first_shares(alloc, workers, points.len())?;
+    let mut yard = FreeYard::new();
+    let start = Instant::now(rt)?;
+    let gate = NotingGate::new(rt, start);
+    let tree = local_build::build(rt, alloc, &mut yard, points, &shares, &gate)?;
+    let built = since(rt, start)?;
+    drop(tree);
+    let freed = since(rt, start)?;
+    Ok(phases_of(&gate, built, freed))
+}
+
+/// The times of the phases of LOCAL with 1 to 4 workers.
+fn local_by_workers<R: Clock + Threads + Sync>(
+    rt: &R,
+    alloc: Global,
+    points: &Arc<Points>,
+) -> anyhow::Result<ByWorkers> {
+    Ok(ByWorkers {
+        one: time_local(rt, alloc, points, 1)?,
+        two: time_local(rt, alloc, points, 2)?,
+        three: time_local(rt, alloc, points, 3)?,
+        four: time_local(rt, alloc, points, 4)?,
+    })
+}
+
+/// The times of the phases of one build by so many workers of PARTREE.
+fn time_partree<R: Clock + Threads + Sync>(
+    rt: &R,
+    alloc: Global,
+    points: &Arc<Points>,
+    workers: u32,
+) -> anyhow::Result<Phases>
+    requires { HasWorkers workers }
+{
+    let shares = first_shares(alloc, workers, points.len())?;
+    let mut yard = FreeYard::new();
+    let start = Instant::now(rt)?;
+    let gate = NotingGate::new(rt, start);
+    let tree = partree_merge::build(rt, alloc, &mut yard, points, &shares, &gate)?;
+    let built = since(rt, start)?;
+    drop(tree);
+    let freed = since(rt, start)?;
+    Ok(phases_of(&gate, built, freed))
+}
+
+/// The times of the phases of PARTREE with 1 to 4 workers.
+fn partree_by_workers<R: Clock + Threads + Sync>(
+    rt: &R,
+    alloc: Global,
+    points: &Arc<Points>,
+) -> anyhow::Result<ByWorkers> {
+    Ok(ByWorkers {
+        one: time_partree(rt, alloc, points, 1)?,
+        two: time_partree(rt, alloc, points, 2)?,
+        three: time_partree(rt, alloc, points, 3)?,
+        four: time_partree(rt, alloc, points, 4)?,
+    })
+}
+
+/// The times of the phases of one build by so many workers of SPACE.
+fn time_space<R: Clock + Threads + Sync>(
+    rt: &R,
+    alloc: Global,
+    points: &Arc<Points>,
+    workers: u32,
+) -> anyhow::Result<Phases>
+    requires { HasWorkers workers }
+{
+    let start = Instant::now(rt)?;
+    let gate = NotingGate::new(rt, start);
+    let tree = space_split::build(rt, alloc, points, workers, &gate)?;
+    let built = since(rt, start)?;
+    drop(tree);
+    let freed = since(rt, start)?;
+    Ok(phases_of(&gate, built, freed))
+}
+
+/// The times of the phases of SPACE with 1 to 4 workers.
+fn space_by_workers<R: Clock + Threads + Sync>(
+    rt: &R,
+    alloc: Global,
+    points: &Arc<Points>,
+) -> anyhow::Result<ByWorkers> {
+    Ok(ByWorkers {
+        one: time_space(rt, alloc, points, 1)?,
+        two: time_space(rt, alloc, points, 2)?,
+        three: time_space(rt, alloc, points, 3)?,
+        four: time_space(rt, alloc, points, 4)?,
     })
 }
 
@@ -181,10 +270,10 @@ fn time_round<R: Clock + Threads + Wait + Sync>(
     Ok(Round {
         sorted,
         plain,
-        orig: time_workers(rt, alloc, points, Builder::Orig)?,
-        local: time_workers(rt, alloc, points, Builder::Local)?,
-        partree: time_workers(rt, alloc, points, Builder::Partree)?,
-        space: time_workers(rt, alloc, points, Builder::Space)?,
+        orig: orig_by_workers(rt, alloc, points)?,
+        local: local_by_workers(rt, alloc, points)?,
+        partree: partree_by_workers(rt, alloc, points)?,
+        space: space_by_workers(rt, alloc, points)?,
     })
 }
 
@@ -195,7 +284,7 @@ fn times_of<R: Clock + Threads + Wait + Sync>(
     points: &Arc<Points>,
     rounds: u32,
 ) -> anyhow::Result<(Phases, Round)> {
-    let first = time_builder(rt, alloc, points, Builder::Orig, 1)?;
+    let first = time_orig(rt, alloc, points, 1)?;
     let mut least = time_round(rt, alloc, points)?;
     for _ in 1..rounds {
         least = least.least(time_round(rt, alloc, points)?);

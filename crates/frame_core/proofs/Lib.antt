@@ -5,3 +5,5 @@ pub mod Zones
 pub mod Frames
 pub mod Stages
 pub mod Sharing
+pub mod ZoneShares
+pub mod Moved

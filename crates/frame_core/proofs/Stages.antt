@@ -40,3 +40,7 @@ pub octree_of_stage : (i : Inside) (e : EngineState) (kept : MadeTree) (o : Stor
     → i.last ≡ Some kept
     → IsMadeTree kept o → IsOctreeOf (sites_of i.bodies) o
 octree_of_stage i e kept o seen rule tree last h = (made_of_stage i e kept o seen rule (subst HasTree (sym tree) tt) last h).octree
+
+-- where an engine is spent, it keeps nothing for its stage
+pub spent_keeps : (e : EngineState) (s : Stage) → s ≡ held.Spent → KeepsStage e s
+spent_keeps e s is = let P : Stage → Type 0 = λ t. KeepsStage e t in subst P (sym is) tt

@@ -1,8 +1,9 @@
 -- What contracts see of an engine.
-use Rattle.std.specs.Prelude.{ℕ, pos, ◌*◌, ◌^◌, List, Option, None, Some, length, map, ⊤}
-use Rattle.bh_model.specs.Motions.{Exact, Velocity}
+use Rattle.std.specs.Prelude.{ℕ, List, Option, None, Some, length, ⊤}
 use Rattle.bh_model.specs.Plans.{TreePlan}
 use Rattle.bh_model.specs.Zones.{first_costs}
+use Rattle.drift.specs.Motions.{first_motion}
+use Rattle.drift.specs.declared.body_motion.BodyMotion.{BodyMotion}
 use Rattle.mass_moments.specs.Kept.{cost_at}
 use Rattle.probe.specs.Figures.{FrameFigures}
 use Rattle.scene_file.specs.Bodies.{sites_of}
@@ -18,14 +19,13 @@ pub data EngineStage : Type 0 where
   WithFrame : EngineStage
   Spent : EngineStage
 
--- the plan, the number of the frame, the bodies, where these are exactly and how fast they move, the cost of each, the shares in which workers build, the
--- last tree that was made, and the stage
+-- the plan, the number of the frame, the bodies, where each is exactly and how fast it moves, its cost, the shares in which workers build, the last tree
+-- that was made, and the stage
 pub record EngineState : Type 0 where
   pub plan : TreePlan
   pub step : ℕ
   pub bodies : List Body
-  pub exact : List Exact
-  pub velocities : List Velocity
+  pub motion : List BodyMotion
   pub costs : List ℕ
   pub shares : List (List ℕ)
   pub last : Option MadeTree
@@ -48,22 +48,13 @@ abbrev pub IsUsable : EngineStage → Type 0
 IsUsable Spent = ⊥
 IsUsable _ = ⊤
 
--- where a body is exactly before it moves: at its point
-abbrev pub first_exact : Body → Exact
-first_exact b = record { x = b.at.x * 2 ^ 32; y = b.at.y * 2 ^ 32; z = b.at.z * 2 ^ 32 }
-
--- how fast it moves then
-abbrev pub at_rest : Body → Velocity
-at_rest b = record { x = pos 0; y = pos 0; z = pos 0 }
-
 -- the engine of a plan and bodies, before its first tree: frame 0, bodies at rest, each cost 1, and no tree
 abbrev pub opened : TreePlan → List Body → EngineState
 opened plan bodies = record {
   plan = plan;
   step = 0;
   bodies = bodies;
-  exact = map first_exact bodies;
-  velocities = map at_rest bodies;
+  motion = first_motion bodies;
   costs = first_costs (length bodies);
   shares = first_shares plan.workers (length bodies);
   last = None;

@@ -1,5 +1,6 @@
 -- The frames of a run.
 use Rattle.std.specs.Prelude.{ℕ, ℤ, pos, ◌+ℤ◌, ◌*ℤ◌, List, [], ◌∷◌, length}
+use Rattle.force_walk.specs.Walks.{pulls}
 use Rattle.octant_code.specs.Points.{site_at}
 use Rattle.bh_model.specs.Bodies.{numbers}
 use Rattle.bh_model.specs.Plans.{TreePlan}
@@ -20,6 +21,10 @@ tree_of_bodies bodies = octree (site_at (sites_of bodies)) (numbers (length bodi
 -- the pull on a body of all bodies
 abbrev pub pull_on : PullLaw → List Body → ℕ → Pull
 pull_on law bodies n = pull law (matter_of bodies) n (tree_of_bodies bodies)
+
+-- the pulls of all bodies on each, by their numbers
+abbrev pub pulls_of : PullLaw → List Body → List Pull
+pulls_of law bodies = pulls law (matter_of bodies) (length bodies) (tree_of_bodies bodies)
 
 -- the sum of whole numbers, one for each body of a list
 unfoldable pub sum_over : (ℕ → ℤ) → List ℕ → ℤ

@@ -4,3 +4,4 @@ pub mod Shares
 pub mod Building
 pub mod Engines
 pub mod Held
+pub mod Next

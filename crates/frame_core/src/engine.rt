@@ -2,6 +2,7 @@
 
 ghost use Rattle.std.specs.Prelude.{IfOk};
 
+use crate::moving::{next_number, set_costs, step_bodies};
 use crate::shares::first_shares;
 use crate::stage::{FrameParts, Stage};
 use crate::sums::{greatest_cost, sum_up};
@@ -9,33 +10,37 @@ use crate::tree::KeptTree;
 use bh_model::{Plan, Pull};
 use build_gate::Gate;
 use costzones::zones;
+use drift::Motion;
 use force_walk::pulls;
 use free_tree::FreeYard;
 use locked_tree::LockedYard;
 use mass_moments::moments;
 use octant_code::{OutOfMemory, Point};
-use octree::Octree;
+use octree::{Extent, Octree};
 use probe::Frame;
-use scene_file::Bodies;
+use scene_file::{Bodies, Move};
 use std::alloc::Global;
 use std::marker::Model;
+use std::mem::replace;
 use std::sync::Wait;
 use std::thread::Threads;
 
 /// The bodies of a run with what is made for them: their octree, and the zones and the pulls of their
-/// frame. Once a call was refused for want of memory the engine is spent, and nothing more is asked
-/// of it.
+/// frame. From a frame to the next they move by their pulls, or by moves. Once a call was refused for
+/// want of memory the engine is spent, and nothing more is asked of it.
 ///
-/// Contracts see it as an `EngineState`: the plan, the number of the frame, the bodies, where these
-/// are exactly and how fast they move, the cost of each, the shares in which workers build, the last
-/// tree that was made, and the stage, which says whether the points have a tree and a
-/// frame, and whether the engine is spent.
+/// Contracts see it as an `EngineState`: the plan, the number of the frame, the bodies, where each is
+/// exactly and how fast it moves, its cost, the shares in which workers build, the last tree that was
+/// made, and the stage, which says whether the points have a tree and a frame, and whether the
+/// engine is spent.
 #[derive(Drop)]
 pub struct Engine {
     alloc: Global,
     plan: Plan,
     step: u32,
     bodies: Bodies,
+    // none while the bodies rest at their points
+    motion: Option<Motion>,
     costs: Vec<u32>,
     shares: Vec<Vec<u32>>,
     last: Option<KeptTree>,
@@ -57,17 +62,19 @@ impl Model for Engine {
 impl Engine {
     ghost use Rattle.std.specs.Prelude.{◌≡◌, ◌<◌, IfOk, IsErr, OnErr, OnOk, length, map};
     ghost use Rattle.octant_code.specs.Points.{site_at};
-    ghost use Rattle.bh_model.specs.Trees.{depth};
+    ghost use Rattle.bh_model.specs.Trees.{cell_count, depth};
     ghost use Rattle.bh_model.specs.Zones.{zone};
     ghost use Rattle.bh_model.specs.declared.plan.Builder.TheVariants.{Orig, Space};
     ghost use Rattle.frame_core.specs.Building.{IsFree, Rises, pieces_at};
     ghost use Rattle.frame_core.specs.Engines.{HasTree, IsUsable, Spent, WithFrame, WithTree, WithoutTree, builder_pieces, builder_publishes, frame_of, opened, tree_for, where_built, with_frame, with_tree};
     ghost use Rattle.frame_core.specs.Frames.{pull_on, tree_of_bodies};
     ghost use Rattle.frame_core.specs.Held.{AreParts};
+    ghost use Rattle.frame_core.specs.Next.{drifted, shifted_by};
     ghost use Rattle.mass_moments.specs.Kept.{cost_at};
     ghost use Rattle.octree.specs.ByKeys.{StandsByKeys};
     ghost use Rattle.octree.specs.Stored.{IsOctreeOf, tree_of};
     ghost use Rattle.scene_file.specs.Bodies.{sites_of};
+    ghost use Rattle.scene_file.specs.Moves.{IsPass};
 
     /// The engine of a plan and bodies, with a cost of 1 for each body, and the bodies shared among
     /// the workers by their numbers. It has no tree yet.
@@ -85,6 +92,7 @@ impl Engine {
             plan,
             step: 0,
             bodies,
+            motion: None,
             costs,
             shares,
             last: None,
@@ -231,6 +239,58 @@ impl Engine {
         })
     }
 
+    /// Goes on to the next frame of a run: the bodies move by the pulls of this frame, its zones become
+    /// the shares, and a body's cost is 1 and the number of terms of its pull. The new points have no
+    /// tree yet.
+    ///
+    /// # Errors
+    ///
+    /// `OutOfMemory` for want of memory. The engine is spent then.
+    pub fn drift(&mut self) -> Result<(), OutOfMemory>
+        requires { self.old.stage ≡ WithFrame }
+        ensures moved { OnOk result (self.new ≡ drifted self.old) }
+        ensures refused { OnErr result (self.new.stage ≡ Spent) }
+    {
+        let stage = replace(&mut self.stage, Stage::Spent);
+        let Stage::Frame(parts) = stage else {
+            unreachable!()
+        };
+        let FrameParts { zones, pulls, .. } = parts;
+        let motion = replace(&mut self.motion, None);
+        let (bodies, motion) = step_bodies(self.alloc, &self.bodies, motion, &pulls)?;
+        set_costs(&mut self.costs, &pulls);
+        self.step = next_number(self.step);
+        self.bodies = bodies;
+        self.motion = Some(motion);
+        self.shares = zones;
+        self.stage = Stage::Bare;
+        Ok(())
+    }
+
+    /// Goes on to the frame after moves. Shares and costs stay, and all bodies rest at their new points,
+    /// which have no tree yet.
+    ///
+    /// # Errors
+    ///
+    /// `OutOfMemory` for want of memory. The engine is spent then.
+    pub fn shift(&mut self, moves: &[Move]) -> Result<(), OutOfMemory>
+        requires tree { HasTree self.old.stage }
+        requires moves { IsPass self.old.bodies moves.now }
+        ensures moved { OnOk result (self.new ≡ shifted_by moves.now self.old) }
+        ensures refused { OnErr result (self.new.stage ≡ Spent) }
+    {
+        match self.bodies.shifted(self.alloc, moves) {
+            Ok(bodies) => {
+                self.step = next_number(self.step);
+                self.bodies = bodies;
+                self.motion = None;
+                self.stage = Stage::Bare;
+                Ok(())
+            }
+            Err(_) => self.refuse(),
+        }
+    }
+
     // What a refused call answers: from then on the engine is spent.
     fn refuse<T>(&mut self) -> Result<T, OutOfMemory>
         ensures answer { IsErr result }
@@ -264,6 +324,15 @@ impl Engine {
         }
     }
 
+    /// How many cells the tree of the bodies' points has, and how deep its bodies lie.
+    pub fn extent(&self) -> Extent
+        requires { HasTree self.now.stage }
+        ensures cells { result.cells ≡ cell_count (tree_of_bodies self.now.bodies) }
+        ensures depth { result.depth ≡ depth (tree_of_bodies self.now.bodies) }
+    {
+        self.octree().extent()
+    }
+
     /// The depth of the tree of the engine's frame: the greatest level of a word that names a body, 0 to 21.
     pub fn depth(&self) -> u32
         requires { self.now.stage ≡ WithFrame }
@@ -273,6 +342,14 @@ impl Engine {
             Stage::Frame(parts) => parts.depth,
             _ => unreachable!(),
         }
+    }
+
+    /// The number of the engine's frame, from 0.
+    pub fn step(&self) -> u32
+        requires { IsUsable self.now.stage }
+        ensures { result ≡ self.now.step }
+    {
+        self.step
     }
 
     /// How many workers there are, from 1 to 64.

@@ -1,7 +1,8 @@
-//! The engine: it holds the bodies of a run, and makes their trees and frames.
+//! The engine: it holds the bodies of a run, makes their trees and frames, and moves them from frame to frame.
 #![tactic(auto)]
 
 mod engine;
+mod moving;
 mod shares;
 mod stage;
 mod sums;

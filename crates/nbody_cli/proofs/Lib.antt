@@ -1,2 +1,4 @@
 mod Rows
 mod Serving
+mod Turns
+mod Stages

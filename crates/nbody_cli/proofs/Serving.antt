@@ -1,29 +1,31 @@
 -- Why each end of a run meets its promise.
-use Rattle.std.proofs.Common.{◌≡◌, ◌∙◌, ◌<◌, ◌≤◌, ◌+◌, ◌-◌, ◌^◌, ℕ, List, [], ◌++◌, Bool, true, false, ◌&&◌, IsFalse, Option, Some, None, Result, Ok, Err, length, cond, refl}
+use Rattle.std.proofs.Common.{◌≡◌, ◌∙◌, ◌<◌, ℕ, List, [], ◌∷◌, ◌++◌, Bool, true, false, ◌&&◌, IsFalse, Option, Some, None, Result, Ok, Err, length, cond, refl}
+use Rattle.std.specs.Prelude.{IfErr}
 use Rattle.std.proofs.Common.{sym, ap, subst, arith, inl, inr}
 use Rattle.std.proofs.lemmas.List.{append-nil, length-append}
 use Rattle.std.proofs.lemmas.Bool.Decides.{nat_tests}
 use Rattle.std.specs.Io.KnownBytes.{Consumes, IsAtEnd}
-use Rattle.bh_outside.specs.Outside.{Rose}
-use Rattle.frame_core.specs.Building.{IsFree, Publications, Rises}
-use Rattle.frame_core.specs.Engines.{EngineState, builder_publishes, opened, with_tree}
-use Rattle.bh_outside.proofs.Takings.{no_prefix, took_none}
-use Rattle.scene_file.specs.Scene.{scene_of}
-use Rattle.scene_file.specs.declared.bodies.Body.{Body}
-use Rattle.scene_file.specs.declared.fault.SceneFault.{SceneFault}
-use Rattle.scene_file.specs.declared.fault.SceneFault.TheVariants as fault
-use Rattle.nbody_options.specs.Choices.{Choices}
+use Rattle.bh_outside.specs.Outside.{Rose, Took, TookPrefix}
+use Rattle.bh_outside.proofs.Takings.{took_none}
 use Rattle.bh_model.specs.declared.plan.Builder.{Builder}
 use Rattle.bh_model.specs.declared.plan.Builder.TheVariants as builder
-use Rattle.shared_tree.specs.Seen.{YardCounts, risen}
+use Rattle.frame_core.specs.Building.{IsFree}
+use Rattle.frame_core.specs.Engines.{EngineState, opened}
+use Rattle.scene_file.specs.Moves.{IsScene, SceneParts}
+use Rattle.scene_file.specs.Scene.{scene_of}
+use Rattle.scene_file.specs.declared.fault.SceneFault.{SceneFault}
+use Rattle.scene_file.specs.declared.fault.SceneFault.TheVariants as fault
+use Rattle.scene_file.specs.declared.moves.Move.{Move}
+use Rattle.nbody_options.specs.Choices.{Choices}
 use Rattle.nbody_options.specs.Options.{is_served, serves_builder, serves_command}
 use Rattle.nbody_options.specs.declared.options.Command.{Command}
 use Rattle.nbody_options.specs.declared.options.Command.TheVariants as command
-use Rattle.nbody_cli.specs.Lines.{lines_text}
-use Rattle.nbody_cli.specs.Serving.{Answers, AreLeft, Completes, Counts, Ends, IsEarly, IsOpened, Ports, RisesAtMost, Serves, ServesOptions, Wanted, World}
-use Rattle.nbody_cli.specs.Serving.{chosen_builder, needs_source, no_publications, other_yard_of, ports, publishes, reads_source, sink_port, status_of_fault}
-use Rattle.nbody_cli.specs.Serving.{wanted, wanted_of_bodies, wanted_of_fault, wanted_of_scene, world, yard_of}
-use Rattle.nbody_cli.specs.Text.{command_text, engine_lines}
+use Rattle.shared_tree.specs.Seen.{YardCounts}
+use Rattle.nbody_cli.proofs.Turns.{amid_counts, amid_took, stayed, still, still_amid, whole_counts, whole_took}
+use Rattle.nbody_cli.specs.Serving.{AreLeft, Completes, Counts, Ends, EndsEarly, InTurn, IsCounted, IsOpened, Output, Ports, Runs, Serves, ServesOptions, Wanted, World}
+use Rattle.nbody_cli.specs.Serving.{chosen_builder, needs_source, no_scene, other_yard_of, output, output_of, ports, reads_source, status_of_fault, wanted}
+use Rattle.nbody_cli.specs.Serving.{wanted_of_scene, world, yard_of}
+use Rattle.nbody_cli.specs.Text.{Part, command_parts, published_by, refused_line, text_of, usage_line, without_tree}
 use Rattle.nbody_cli.specs.declared.status.Status.{Status}
 use Rattle.nbody_cli.specs.declared.status.Status.TheVariants as status
 
@@ -54,10 +56,8 @@ free_served true builder.Partree rest h other = tt
 free_served true builder.Space rest h other = tt
 free_served false b rest h other = cc
 
-pub is_free : (o : Choices) (e : EngineState) → is_served o ≡ true → (o.plan.builder ≡ builder.Orig → ⊥) → e ≡ opened o.plan e.bodies → IsFree e.plan.builder
-is_free o e served other engine =
-    let same : o.plan.builder ≡ e.plan.builder = sym (ap (λ (s : EngineState). s.plan.builder) engine) in
-    subst IsFree same (free_served (serves_command o.command) o.plan.builder _ served other)
+pub is_free : (o : Choices) → is_served o ≡ true → (o.plan.builder ≡ builder.Orig → ⊥) → IsFree o.plan.builder
+is_free o served other = free_served (serves_command o.command) o.plan.builder _ served other
 
 -- the command of options that are served is served
 command_first : (k rest : Bool) → (k && rest) ≡ true → k ≡ true
@@ -67,22 +67,15 @@ command_first false rest h = cc
 pub serves_its_command : (o : Choices) → is_served o ≡ true → serves_command o.command ≡ true
 serves_its_command o served = command_first (serves_command o.command) _ served
 
--- an engine's lines don't change as it makes its tree
-engine_same : (k : Command) (e : EngineState) → engine_lines k (with_tree e) ≡ engine_lines k e
-engine_same command.Tree e = refl
-engine_same command.Run e = refl
-engine_same command.Passes e = refl
-engine_same command.Trial e = refl
-
 -- what options that are served want of a scene
 wanted_is : (o : Choices) (bytes : List ℕ) → is_served o ≡ true → wanted (Some o) bytes ≡ wanted_of_scene o (scene_of bytes)
 wanted_is o bytes served =
-    let made : Wanted = record { status = status.Done; text = command_text o []; reads = false; publishes = publishes o [] } in
+    let made : Wanted = record { status = status.Done; parts = command_parts o no_scene; reads = false } in
     ap (λ b. cond b (wanted_of_scene o (scene_of bytes)) made) (reads o served)
 
 -- whatever the scene, it has to be read
-reads_scene : (o : Choices) (scene : Result (List Body) SceneFault) → (wanted_of_scene o scene).reads ≡ true
-reads_scene o (Ok bodies) = refl
+reads_scene : (o : Choices) (scene : Result SceneParts SceneFault) → (wanted_of_scene o scene).reads ≡ true
+reads_scene o (Ok scene) = refl
 reads_scene o (Err f) = refl
 
 -- a scene of too many bytes
@@ -98,6 +91,10 @@ fault_ends (fault.OutOfRange r f) told = refl
 fault_ends (fault.TooMany r) told = refl
 fault_ends (fault.MassTotal r) told = refl
 fault_ends (fault.Coincident r a b) told = refl
+fault_ends (fault.BodyAfterMove r) told = refl
+fault_ends (fault.UnknownBody r) told = refl
+fault_ends (fault.MovedTwice r n) told = refl
+fault_ends (fault.PassCoincident r a b) told = refl
 fault_ends fault.OutOfMemory told = absurd (told refl)
 
 -- ---- what the source told
@@ -125,59 +122,7 @@ longer None now given limit gave long = long
 longer (Some xs) None given limit gave long = absurd gave
 longer (Some xs) (Some ys) given limit gave long = omega (arith, ap length gave, length-append given ys)
 
--- ---- the counts of a yard
-
--- a yard that is as it was
-pub stayed : (p : Publications) (y : YardCounts) → RisesAtMost p y y
-stayed p y = (omega arith, omega arith, omega arith, omega arith)
-
--- before a tree is made a yard is as it was
-stays : (p : Publications) (y : YardCounts) (s : Status) → IsEarly s → Counts p y y s
-stays p y status.Done early = absurd early
-stays p y status.Usage early = absurd early
-stays p y status.Read early = refl
-stays p y status.Write early = stayed p y
-stays p y status.Scene early = refl
-stays p y status.Memory early = stayed p y
-
--- a count of 64 bits that rose by so many
-risen_within : (count n : ℕ) → count ≤ 2 ^ 64 - 1 → (count ≤ risen count n) × (risen count n ≤ count + n)
-risen_within count n small = (omega arith, omega arith)
-
-rises_within : (p : Publications) (y z : YardCounts) → y.published ≤ 2 ^ 64 - 1 → y.changes ≤ 2 ^ 64 - 1 → Rises p y z → RisesAtMost p y z
-rises_within p y z published changes (bodies, count, least, most, rose) =
-    let q = risen_within y.published p.bodies published in
-    let r = risen_within y.changes count changes in
-    (rw bodies q.0, rw bodies q.1, rw rose r.0, omega (arith, rose, r.1, most))
-
 -- ---- the ends of a run
-
--- Over a sink alone a run ends with Done, Write or Memory. So it is that of a run whose source was read to its end, it doesn't end with Usage, and a yard
--- that counted the bodies of its tree counted what it has to.
-record IsEnd (w : Wanted) (before after : Ports) (y z : YardCounts) (s : Status) : Type 0 where
-  ends : Ends w before after s
-  counts : Counts w.publishes y z s
-  no_usage : s ≡ status.Usage → ⊥
-
-over_sink : (text : List ℕ) (n : Publications) (l0 l1 wb wn : Option (List ℕ)) (rb rn kb kn : ℕ) (y z : YardCounts) (s : Status) → IsAtEnd l1 → Rises n y z
-    → RisesAtMost n y z → Ends (wanted_of_bodies text no_publications) (sink_port wb kb) (sink_port wn kn) s
-    → IsEnd (wanted_of_bodies text n) (ports l0 rb wb kb) (ports l1 rn wn kn) y z s
-over_sink text n l0 l1 wb wn rb rn kb kn y z status.Done end rose within h = record { ends = (h.0, h.1, λ _. end); counts = rose; no_usage = λ e. cc }
-over_sink text n l0 l1 wb wn rb rn kb kn y z status.Usage end rose within h = cc
-over_sink text n l0 l1 wb wn rb rn kb kn y z status.Read end rose within h = absurd (omega (arith, h.1))
-over_sink text n l0 l1 wb wn rb rn kb kn y z status.Write end rose within h = record { ends = h; counts = within; no_usage = λ e. cc }
-over_sink text n l0 l1 wb wn rb rn kb kn y z status.Scene end rose within h = cc
-over_sink text n l0 l1 wb wn rb rn kb kn y z status.Memory end rose within h = record { ends = h; counts = within; no_usage = λ e. cc }
-
--- an early end that a sink tells is that of a run whose source was read, to its end or not
-early_over : (w : Wanted) (l0 l1 wb wn : Option (List ℕ)) (rb rn kb kn : ℕ) (s : Status) → IsEarly s → Ends w (sink_port wb kb) (sink_port wn kn) s
-    → Ends w (ports l0 rb wb kb) (ports l1 rn wn kn) s
-early_over w l0 l1 wb wn rb rn kb kn status.Done early h = absurd early
-early_over w l0 l1 wb wn rb rn kb kn status.Usage early h = absurd early
-early_over w l0 l1 wb wn rb rn kb kn status.Read early h = absurd (omega (arith, h.1))
-early_over w l0 l1 wb wn rb rn kb kn status.Write early h = h
-early_over w l0 l1 wb wn rb rn kb kn status.Scene early h = h
-early_over w l0 l1 wb wn rb rn kb kn status.Memory early h = h
 
 -- where no fault rose, a run ended as was wanted or for want of memory
 completes : (w : Wanted) (before after : Ports) (s : Status) → Ends w before after s → Completes w before after s
@@ -188,128 +133,272 @@ completes w before after status.Write h quiet still = absurd (still h.0)
 completes w before after status.Scene h quiet still = inl h.0
 completes w before after status.Memory h quiet still = inr refl
 
--- a run by its bytes and its end
-answers : (options : Option Choices) (bytes : List ℕ) (before after : Ports) (s : Status) → AreLeft before.left bytes
-    → Ends (wanted options bytes) before after s → Answers options before after s
-answers options bytes before after s told h = record { bytes = bytes; told = told; ends = h; complete = completes (wanted options bytes) before after s h }
+-- how a run over a yard ends, by what is wanted
+record IsEnd (w : Wanted) (before after : Ports) (y z : YardCounts) (s : Status) : Type 0 where
+  ends : Ends w before after s
+  counts : Counts (published_by w.parts) y z s
+  in_turn : InTurn w.parts (output_of before y) (output_of after z) s
+
+-- the text of one line
+line_took : (line : List ℕ) (w v : Option (List ℕ)) → Took w v line → Took w v (text_of (without_tree line ∷ []))
+line_took line w v h = rw (append-nil line) h
+
+line_prefix : (line : List ℕ) (w v : Option (List ℕ)) → TookPrefix w v line → TookPrefix w v (text_of (without_tree line ∷ []))
+line_prefix line w v h = rw (append-nil line) h
 
 -- memory ran out with nothing written
-pub answers_memory : (options : Option Choices) (l0 l1 : Option (List ℕ)) (rb rn : ℕ) (wb : Option (List ℕ)) (kb kn : ℕ)
-    → Answers options (ports l0 rb wb kb) (ports l1 rn wb kn) status.Memory
-answers_memory options l0 l1 rb rn wb kb kn =
-    answers options (left_or l0 []) (ports l0 rb wb kb) (ports l1 rn wb kn) status.Memory (are_left l0 []) (no_prefix wb _)
+nothing : (w : Wanted) (l0 l1 wb wn : Option (List ℕ)) (rb rn kb kn : ℕ) (y : YardCounts) → Took wb wn []
+    → IsEnd w (ports l0 rb wb kb) (ports l1 rn wn kn) y y status.Memory
+nothing w l0 l1 wb wn rb rn kb kn y h = record {
+  ends = ([], text_of w.parts, refl, h);
+  counts = stayed (published_by w.parts) y;
+  in_turn = still_amid w.parts (output wb kb y) (output wn kn y) (record { written = h; counted = refl });
+}
 
--- a read failed
-pub answers_read : (o : Choices) (l0 l1 : Option (List ℕ)) (rb rn : ℕ) (wb : Option (List ℕ)) (kb kn : ℕ) → is_served o ≡ true → Rose rb rn
-    → Answers (Some o) (ports l0 rb wb kb) (ports l1 rn wb kn) status.Read
-answers_read o l0 l1 rb rn wb kb kn served rise =
-    let bytes = left_or l0 [] in
-    answers (Some o) bytes (ports l0 rb wb kb) (ports l1 rn wb kn) status.Read (are_left l0 [])
-    (ap (λ (w : Wanted). w.reads) (wanted_is o bytes served) ∙ reads_scene o (scene_of bytes), rise, took_none wb)
+-- a line that failed
+line_failed : (w : Wanted) (line : List ℕ) (l0 l1 wb wn : Option (List ℕ)) (rb rn kb kn : ℕ) (y : YardCounts) → w.parts ≡ without_tree line ∷ []
+    → Rose kb kn → TookPrefix wb wn line → IsEnd w (ports l0 rb wb kb) (ports l1 rn wn kn) y y status.Write
+line_failed w line l0 l1 wb wn rb rn kb kn y is rose h =
+    let P : List Part → Type 0 = λ parts. TookPrefix wb wn (text_of parts) in
+    let Q : List Part → Type 0 = λ parts. InTurn parts (output wb kb y) (output wn kn y) status.Write in
+    record {
+      ends = (rose, subst P (sym is) (line_prefix line wb wn h));
+      counts = stayed (published_by w.parts) y;
+      in_turn = subst Q (sym is) (inl (record { written = h; counted = stayed (without_tree line).publishes y }));
+    }
 
--- a run that ended early, by the scene of its bytes
-answers_early : (o : Choices) (bytes : List ℕ) (scene : Result (List Body) SceneFault) (l0 l1 wb wn : Option (List ℕ)) (rb rn kb kn : ℕ) (s : Status)
-    → is_served o ≡ true → AreLeft l0 bytes → scene_of bytes ≡ scene → IsEarly s
-    → Ends (wanted_of_scene o scene) (sink_port wb kb) (sink_port wn kn) s → Answers (Some o) (ports l0 rb wb kb) (ports l1 rn wn kn) s
-answers_early o bytes scene l0 l1 wb wn rb rn kb kn s served told is early h =
-    let same : wanted (Some o) bytes ≡ wanted_of_scene o scene = wanted_is o bytes served ∙ ap (wanted_of_scene o) is in
-    let P : Wanted → Type 0 = λ w. Ends w (ports l0 rb wb kb) (ports l1 rn wn kn) s in
-    answers (Some o) bytes (ports l0 rb wb kb) (ports l1 rn wn kn) s told
-    (subst P (sym same) (early_over (wanted_of_scene o scene) l0 l1 wb wn rb rn kb kn s early h))
+-- a run that ended early, by its scene
+early : (o : Choices) (scene : Result SceneParts SceneFault) (l0 l1 wb wn : Option (List ℕ)) (rb rn kb kn : ℕ) (y : YardCounts) (s : Status)
+    → EndsEarly s scene wb kb wn kn → IsEnd (wanted_of_scene o scene) (ports l0 rb wb kb) (ports l1 rn wn kn) y y s
+early o scene l0 l1 wb wn rb rn kb kn y status.Done h = absurd h
+early o scene l0 l1 wb wn rb rn kb kn y status.Usage h = absurd h
+early o scene l0 l1 wb wn rb rn kb kn y status.Read h = absurd h
+early o (Ok scene) l0 l1 wb wn rb rn kb kn y status.Write h = absurd h
+early o (Err f) l0 l1 wb wn rb rn kb kn y status.Write h =
+    line_failed (wanted_of_scene o (Err f)) (refused_line f) l0 l1 wb wn rb rn kb kn y refl h.0 h.1
+early o (Ok scene) l0 l1 wb wn rb rn kb kn y status.Scene h = absurd h
+early o (Err f) l0 l1 wb wn rb rn kb kn y status.Scene h =
+    record { ends = (h.0, line_took (refused_line f) wb wn h.1); counts = refl; in_turn = tt }
+early o scene l0 l1 wb wn rb rn kb kn y status.Memory h = nothing (wanted_of_scene o scene) l0 l1 wb wn rb rn kb kn y h
 
--- there were too many bytes
-pub answers_long : (o : Choices) (l0 l1 : Option (List ℕ)) (given : List ℕ) (wb wn : Option (List ℕ)) (rb rn kb kn : ℕ) (s : Status) → is_served o ≡ true
-    → Consumes l0 l1 given → 16777216 < length given → IsEarly s → Ends (wanted_of_fault fault.TooLong) (sink_port wb kb) (sink_port wn kn) s
-    → Answers (Some o) (ports l0 rb wb kb) (ports l1 rn wn kn) s
-answers_long o l0 l1 given wb wn rb rn kb kn s served gave long early h =
-    answers_early o (left_or l0 given) (Err fault.TooLong) l0 l1 wb wn rb rn kb kn s served (are_left l0 given)
-    (long_scene (left_or l0 given) (longer l0 l1 given 16777216 gave long)) early h
-
--- all bytes were read, and the run ended early
-pub answers_scene : (o : Choices) (l0 l1 : Option (List ℕ)) (bytes : List ℕ) (wb wn : Option (List ℕ)) (rb rn kb kn : ℕ) (s : Status) → is_served o ≡ true
-    → Consumes l0 l1 bytes → IsAtEnd l1 → IsEarly s → Ends (wanted_of_scene o (scene_of bytes)) (sink_port wb kb) (sink_port wn kn) s
-    → Answers (Some o) (ports l0 rb wb kb) (ports l1 rn wn kn) s
-answers_scene o l0 l1 bytes wb wn rb rn kb kn s served gave end early h =
-    answers_early o bytes (scene_of bytes) l0 l1 wb wn rb rn kb kn s served (all_left l0 l1 bytes gave end) refl early h
-
--- all bytes were read, and have a scene
-pub opened_engine : (o : Choices) (l0 l1 : Option (List ℕ)) (bytes : List ℕ) (e : EngineState) → Consumes l0 l1 bytes → IsAtEnd l1
-    → scene_of bytes ≡ Ok e.bodies → e ≡ opened o.plan e.bodies → IsOpened o l0 l1 e
-opened_engine o l0 l1 bytes e gave end scene engine =
-    record { bytes = bytes; told = all_left l0 l1 bytes gave end; end = end; scene = scene; engine = engine }
+-- a run that had its engine
+ran : (parts : List Part) (l0 l1 wb wn : Option (List ℕ)) (rb rn kb kn : ℕ) (y z : YardCounts) (s : Status) → IsAtEnd l1 → IsCounted y
+    → Runs parts (output wb kb y) (output wn kn z) s
+    → IsEnd (record { status = status.Done; parts = parts; reads = true }) (ports l0 rb wb kb) (ports l1 rn wn kn) y z s
+ran parts l0 l1 wb wn rb rn kb kn y z status.Done end counted h = record {
+  ends = (refl, whole_took parts (output wb kb y) (output wn kn z) h, λ _. end);
+  counts = whole_counts parts (output wb kb y) (output wn kn z) counted h;
+  in_turn = h;
+}
+ran parts l0 l1 wb wn rb rn kb kn y z status.Usage end counted h = absurd h
+ran parts l0 l1 wb wn rb rn kb kn y z status.Read end counted h = absurd h
+ran parts l0 l1 wb wn rb rn kb kn y z status.Write end counted h = record {
+  ends = (h.0, amid_took parts (output wb kb y) (output wn kn z) h.1);
+  counts = amid_counts parts (output wb kb y) (output wn kn z) counted h.1;
+  in_turn = h.1;
+}
+ran parts l0 l1 wb wn rb rn kb kn y z status.Scene end counted h = absurd h
+ran parts l0 l1 wb wn rb rn kb kn y z status.Memory end counted h = record {
+  ends = amid_took parts (output wb kb y) (output wn kn z) h;
+  counts = amid_counts parts (output wb kb y) (output wn kn z) counted h;
+  in_turn = h;
+}
 
 -- ---- runs of options
 
--- a run that ended before its tree
-pub options_early : (o : Choices) (before after : Ports) (y : YardCounts) (s : Status) → IsEarly s → Answers (Some o) before after s
-    → ServesOptions o before after y y s
-options_early o before after y s early h =
-    record { answers = h; counts = stays (wanted (Some o) h.bytes).publishes y s early; no_usage = λ is. subst IsEarly is early }
+-- a run of options by its bytes and its end
+options_end : (o : Choices) (bytes : List ℕ) (w : Wanted) (before after : Ports) (y z : YardCounts) (s : Status) → AreLeft before.left bytes
+    → wanted (Some o) bytes ≡ w → (s ≡ status.Usage → ⊥) → IsEnd w before after y z s → ServesOptions o before after y z s
+options_end o bytes w before after y z s told is no_usage h =
+    let P : Wanted → Type 0 = λ v. IsEnd v before after y z s in
+    let end = subst P (sym is) h in
+    record {
+      answers = record { bytes = bytes; told = told; ends = end.ends; complete = completes (wanted (Some o) bytes) before after s end.ends };
+      counts = end.counts;
+      in_turn = end.in_turn;
+      no_usage = no_usage;
+    }
 
--- a run whose tree was made
-pub options_made : (o : Choices) (e made : EngineState) (l0 l1 wb wn : Option (List ℕ)) (rb rn kb kn : ℕ) (y z : YardCounts) (s : Status)
-    → is_served o ≡ true → IsOpened o l0 l1 e → made ≡ with_tree e
-    → y.published ≤ 2 ^ 64 - 1 → y.changes ≤ 2 ^ 64 - 1 → Rises (builder_publishes e) y z
-    → Ends (wanted_of_bodies (lines_text (engine_lines o.command made)) no_publications) (sink_port wb kb) (sink_port wn kn) s
+-- memory ran out with nothing written
+pub options_memory : (o : Choices) (l0 l1 : Option (List ℕ)) (rb rn : ℕ) (wb : Option (List ℕ)) (kb kn : ℕ) (y : YardCounts)
+    → ServesOptions o (ports l0 rb wb kb) (ports l1 rn wb kn) y y status.Memory
+options_memory o l0 l1 rb rn wb kb kn y =
+    let bytes = left_or l0 [] in
+    options_end o bytes (wanted (Some o) bytes) (ports l0 rb wb kb) (ports l1 rn wb kn) y y status.Memory (are_left l0 []) refl (λ e. cc)
+    (nothing (wanted (Some o) bytes) l0 l1 wb wb rb rn kb kn y (took_none wb))
+
+-- a read failed
+pub options_read : (o : Choices) (l0 l1 : Option (List ℕ)) (rb rn : ℕ) (wb : Option (List ℕ)) (kb kn : ℕ) (y : YardCounts) → is_served o ≡ true
+    → Rose rb rn → ServesOptions o (ports l0 rb wb kb) (ports l1 rn wb kn) y y status.Read
+options_read o l0 l1 rb rn wb kb kn y served rise =
+    let bytes = left_or l0 [] in
+    options_end o bytes (wanted_of_scene o (scene_of bytes)) (ports l0 rb wb kb) (ports l1 rn wb kn) y y status.Read (are_left l0 [])
+    (wanted_is o bytes served) (λ e. cc) (record { ends = (reads_scene o (scene_of bytes), rise, took_none wb); counts = refl; in_turn = tt })
+
+-- no early end is Usage
+early_no_usage : (scene : Result SceneParts SceneFault) (w v : Option (List ℕ)) (k l : ℕ) (s : Status) → EndsEarly s scene w k v l → s ≡ status.Usage → ⊥
+early_no_usage scene w v k l status.Done h e = absurd h
+early_no_usage scene w v k l status.Usage h e = absurd h
+early_no_usage scene w v k l status.Read h e = absurd h
+early_no_usage scene w v k l status.Write h e = cc
+early_no_usage scene w v k l status.Scene h e = cc
+early_no_usage scene w v k l status.Memory h e = cc
+
+-- a run that ended early, by the scene of its bytes
+options_early : (o : Choices) (bytes : List ℕ) (scene : Result SceneParts SceneFault) (l0 l1 wb wn : Option (List ℕ)) (rb rn kb kn : ℕ) (y : YardCounts)
+    (s : Status) → is_served o ≡ true → AreLeft l0 bytes → scene_of bytes ≡ scene → EndsEarly s scene wb kb wn kn
+    → ServesOptions o (ports l0 rb wb kb) (ports l1 rn wn kn) y y s
+options_early o bytes scene l0 l1 wb wn rb rn kb kn y s served told is h =
+    options_end o bytes (wanted_of_scene o scene) (ports l0 rb wb kb) (ports l1 rn wn kn) y y s told
+    (wanted_is o bytes served ∙ ap (wanted_of_scene o) is) (early_no_usage scene wb wn kb kn s h) (early o scene l0 l1 wb wn rb rn kb kn y s h)
+
+-- there were too many bytes
+pub options_long : (o : Choices) (l0 l1 : Option (List ℕ)) (given : List ℕ) (wb wn : Option (List ℕ)) (rb rn kb kn : ℕ) (y : YardCounts) (s : Status)
+    → is_served o ≡ true → Consumes l0 l1 given → 16777216 < length given → EndsEarly s (Err fault.TooLong) wb kb wn kn
+    → ServesOptions o (ports l0 rb wb kb) (ports l1 rn wn kn) y y s
+options_long o l0 l1 given wb wn rb rn kb kn y s served gave long h =
+    options_early o (left_or l0 given) (Err fault.TooLong) l0 l1 wb wn rb rn kb kn y s served (are_left l0 given)
+    (long_scene (left_or l0 given) (longer l0 l1 given 16777216 gave long)) h
+
+-- all bytes were read, and the run ended early
+options_scene : (o : Choices) (l0 l1 : Option (List ℕ)) (bytes : List ℕ) (wb wn : Option (List ℕ)) (rb rn kb kn : ℕ) (y : YardCounts) (s : Status)
+    → is_served o ≡ true → Consumes l0 l1 bytes → IsAtEnd l1 → EndsEarly s (scene_of bytes) wb kb wn kn
+    → ServesOptions o (ports l0 rb wb kb) (ports l1 rn wn kn) y y s
+options_scene o l0 l1 bytes wb wn rb rn kb kn y s served gave end h =
+    options_early o bytes (scene_of bytes) l0 l1 wb wn rb rn kb kn y s served (all_left l0 l1 bytes gave end) refl h
+
+-- the same of what the opening of the scene answers
+pub scene_ended : {T : Type 0} (o : Choices) (l0 l1 : Option (List ℕ)) (bytes : List ℕ) (wb wn : Option (List ℕ)) (rb rn kb kn : ℕ) (r : Result T Status)
+    → is_served o ≡ true → Consumes l0 l1 bytes → IsAtEnd l1 → IfErr r (λ s. EndsEarly s (scene_of bytes) wb kb wn kn)
+    → IfErr r (λ s. (yard : YardCounts) → ServesOptions o (ports l0 rb wb kb) (ports l1 rn wn kn) yard yard s)
+scene_ended o l0 l1 bytes wb wn rb rn kb kn (Ok x) served gave end h = tt
+scene_ended o l0 l1 bytes wb wn rb rn kb kn (Err s) served gave end h =
+    λ yard. options_scene o l0 l1 bytes wb wn rb rn kb kn yard s served gave end h
+
+-- all bytes were read, and have a scene
+pub opened_engine : (o : Choices) (l0 l1 : Option (List ℕ)) (bytes : List ℕ) (e : EngineState) (passes : List (List Move)) → Consumes l0 l1 bytes
+    → IsAtEnd l1 → scene_of bytes ≡ Ok (record { bodies = e.bodies; passes = passes }) → IsScene (record { bodies = e.bodies; passes = passes })
+    → e ≡ opened o.plan e.bodies → IsOpened o l0 l1 e passes
+opened_engine o l0 l1 bytes e passes gave end scene accepted engine =
+    record { bytes = bytes; told = all_left l0 l1 bytes gave end; end = end; scene = scene; accepted = accepted; engine = engine }
+
+-- a run over an engine doesn't end with Usage
+runs_no_usage : (parts : List Part) (b a : Output) (s : Status) → Runs parts b a s → s ≡ status.Usage → ⊥
+runs_no_usage parts b a status.Done h e = cc
+runs_no_usage parts b a status.Usage h e = absurd h
+runs_no_usage parts b a status.Read h e = cc
+runs_no_usage parts b a status.Write h e = cc
+runs_no_usage parts b a status.Scene h e = cc
+runs_no_usage parts b a status.Memory h e = cc
+
+-- a run that had its engine
+pub options_ran : (o : Choices) (e : EngineState) (passes : List (List Move)) (l0 l1 wb wn : Option (List ℕ)) (rb rn kb kn : ℕ) (y z : YardCounts) (s : Status)
+    → is_served o ≡ true → IsOpened o l0 l1 e passes → IsCounted y
+    → Runs (command_parts o (record { bodies = e.bodies; passes = passes })) (output wb kb y) (output wn kn z) s
     → ServesOptions o (ports l0 rb wb kb) (ports l1 rn wn kn) y z s
-unfolding answers
-options_made o e made l0 l1 wb wn rb rn kb kn y z s served has is published changes rose h =
-    let n = builder_publishes e in
-    let text : lines_text (engine_lines o.command made) ≡ command_text o e.bodies =
-    ap (λ x. lines_text (engine_lines o.command x)) is ∙ ap lines_text (engine_same o.command e)
-    ∙ ap (λ x. lines_text (engine_lines o.command x)) has.engine in
-    let same : wanted_of_bodies (lines_text (engine_lines o.command made)) n ≡ wanted (Some o) has.bytes =
-    ap (λ x. wanted_of_bodies x n) text ∙ ap (λ (x : EngineState). wanted_of_bodies (command_text o e.bodies) (builder_publishes x)) has.engine
-    ∙ ap (wanted_of_scene o) (sym has.scene) ∙ sym (wanted_is o has.bytes served) in
-    let P : Wanted → Type 0 = λ w. IsEnd w (ports l0 rb wb kb) (ports l1 rn wn kn) y z s in
-    let end = subst P same
-    (over_sink (lines_text (engine_lines o.command made)) n l0 l1 wb wn rb rn kb kn y z s has.end rose (rises_within n y z published changes rose) h) in
-    record { answers = answers (Some o) has.bytes (ports l0 rb wb kb) (ports l1 rn wn kn) s has.told end.ends; counts = end.counts; no_usage = end.no_usage }
+options_ran o e passes l0 l1 wb wn rb rn kb kn y z s served has counted h =
+    let scene : SceneParts = record { bodies = e.bodies; passes = passes } in
+    options_end o has.bytes (wanted_of_scene o (Ok scene)) (ports l0 rb wb kb) (ports l1 rn wn kn) y z s has.told
+    (wanted_is o has.bytes served ∙ ap (wanted_of_scene o) has.scene)
+    (runs_no_usage (command_parts o scene) (output wb kb y) (output wn kn z) s h)
+    (ran (command_parts o scene) l0 l1 wb wn rb rn kb kn y z s has.end counted h)
 
 -- ---- runs of words
 
--- there are no options: the usage line, or a part of it
-pub serves_usage : (options : Option Choices) (before after : Ports) (locked free : YardCounts) (s : Status) → options ≡ None
-    → Ends (wanted None []) before after s → Counts no_publications locked locked s → Serves options (world before locked free) (world after locked free) s
-serves_usage options before after locked free s none h counts =
-    let P : Option Choices → Type 0 = λ o. Serves o (world before locked free) (world after locked free) s in
-    subst P (sym none) (record {
-      answers = answers None (left_or before.left []) before after s (are_left before.left []) h;
-      counts = counts;
-      other_yard = refl;
-    })
+-- how a run ends that has no options
+NoOptions : (before after : Ports) (locked free : YardCounts) → Status → Option Choices → Type 0
+NoOptions before after locked free s o = Serves o (world before locked free) (world after locked free) s
+
+no_options : (bytes : List ℕ) (before after : Ports) (locked free : YardCounts) (s : Status) → AreLeft before.left bytes
+    → IsEnd (wanted None bytes) before after locked locked s → NoOptions before after locked free s None
+unfolding NoOptions
+no_options bytes before after locked free s told h = record {
+  answers = record { bytes = bytes; told = told; ends = h.ends; complete = completes (wanted None bytes) before after s h.ends };
+  counts = h.counts;
+  in_turn = h.in_turn;
+  other_yard = refl;
+}
+
+-- there are no options, and the usage line was written
+pub serves_usage : (options : Option Choices) (l wb wn : Option (List ℕ)) (r kb kn : ℕ) (locked free : YardCounts) → options ≡ None → Took wb wn usage_line
+    → Serves options (world (ports l r wb kb) locked free) (world (ports l r wn kn) locked free) status.Usage
+unfolding NoOptions
+serves_usage options l wb wn r kb kn locked free none h =
+    subst (NoOptions (ports l r wb kb) (ports l r wn kn) locked free status.Usage) (sym none)
+    (no_options (left_or l []) (ports l r wb kb) (ports l r wn kn) locked free status.Usage (are_left l [])
+    (record { ends = (refl, line_took usage_line wb wn h); counts = refl; in_turn = tt }))
+
+-- there are none, and the writing of that line failed
+pub serves_no_usage : (options : Option Choices) (l wb wn : Option (List ℕ)) (r kb kn : ℕ) (locked free : YardCounts) → options ≡ None → Rose kb kn
+    → TookPrefix wb wn usage_line → Serves options (world (ports l r wb kb) locked free) (world (ports l r wn kn) locked free) status.Write
+unfolding NoOptions
+serves_no_usage options l wb wn r kb kn locked free none rose h =
+    subst (NoOptions (ports l r wb kb) (ports l r wn kn) locked free status.Write) (sym none)
+    (no_options (left_or l []) (ports l r wb kb) (ports l r wn kn) locked free status.Write (are_left l [])
+    (line_failed (wanted None (left_or l [])) usage_line l l wb wn r r kb kn locked refl rose h))
 
 -- memory ran out before there were options
 pub serves_memory : (options : Option Choices) (l : Option (List ℕ)) (r : ℕ) (wb : Option (List ℕ)) (k : ℕ) (locked free : YardCounts)
     → Serves options (world (ports l r wb k) locked free) (world (ports l r wb k) locked free) status.Memory
 serves_memory options l r wb k locked free =
-    let read = answers_memory options l l r r wb k k in
+    let bytes = left_or l [] in
+    let yard = yard_of (chosen_builder options) (world (ports l r wb k) locked free) in
+    let end = nothing (wanted options bytes) l l wb wb r r k k yard (took_none wb) in
     record {
-      answers = read;
-      counts = stayed (wanted options read.bytes).publishes (yard_of (chosen_builder options) (world (ports l r wb k) locked free));
+      answers = record {
+        bytes = bytes;
+        told = are_left l [];
+        ends = end.ends;
+        complete = completes (wanted options bytes) (ports l r wb k) (ports l r wb k) status.Memory end.ends;
+      };
+      counts = end.counts;
+      in_turn = end.in_turn;
       other_yard = refl;
     }
+
+-- what holds of the yard of a builder, where the other one is as it was
+record YardHas (b : Builder) (P : YardCounts → YardCounts → Type 0) (before after : World) : Type 0 where
+  own : P (yard_of b before) (yard_of b after)
+  other : other_yard_of b after ≡ other_yard_of b before
+
+locked_has : (b : Builder) (P : YardCounts → YardCounts → Type 0) (before after : World) → b ≡ builder.Orig → P before.locked after.locked
+    → after.free ≡ before.free → YardHas b P before after
+locked_has builder.Orig P before after orig h same = record { own = h; other = same }
+locked_has builder.Local P before after orig h same = cc
+locked_has builder.Update P before after orig h same = cc
+locked_has builder.Partree P before after orig h same = cc
+locked_has builder.Space P before after orig h same = cc
+
+free_has : (b : Builder) (P : YardCounts → YardCounts → Type 0) (before after : World) → (b ≡ builder.Orig → ⊥) → P before.free after.free
+    → after.locked ≡ before.locked → YardHas b P before after
+free_has builder.Orig P before after other h same = absurd (other refl)
+free_has builder.Local P before after other h same = record { own = h; other = same }
+free_has builder.Update P before after other h same = record { own = h; other = same }
+free_has builder.Partree P before after other h same = record { own = h; other = same }
+free_has builder.Space P before after other h same = record { own = h; other = same }
+
+-- a run of options over the yard of their builder
+HasServed : (o : Choices) (before after : Ports) (s : Status) → YardCounts → YardCounts → Type 0
+HasServed o before after s y z = ServesOptions o before after y z s
+
+serves_over : (o : Choices) (before after : World) (s : Status) → YardHas o.plan.builder (HasServed o before.ports after.ports s) before after
+    → Serves (Some o) before after s
+unfolding HasServed
+serves_over o before after s h =
+    record { answers = h.own.answers; counts = h.own.counts; in_turn = h.own.in_turn; other_yard = h.other }
 
 -- options with the builder ORIG
 pub serves_locked : (o : Choices) (before after : Ports) (y z free : YardCounts) (s : Status) → o.plan.builder ≡ builder.Orig
     → ServesOptions o before after y z s → Serves (Some o) (world before y free) (world after z free) s
+unfolding HasServed
 serves_locked o before after y z free s orig h =
-    let own : Builder → Type 0 = λ b.
-    Counts (wanted (Some o) h.answers.bytes).publishes (yard_of b (world before y free)) (yard_of b (world after z free)) s in
-    let other : Builder → Type 0 = λ b. other_yard_of b (world after z free) ≡ other_yard_of b (world before y free) in
-    record { answers = h.answers; counts = subst own (sym orig) h.counts; other_yard = subst other (sym orig) refl }
+    serves_over o (world before y free) (world after z free) s
+    (locked_has o.plan.builder (HasServed o before after s) (world before y free) (world after z free) orig h refl)
 
 -- options with another builder
-unlocked : (b : Builder) (n : Publications) (before after : World) (s : Status) → (b ≡ builder.Orig → ⊥) → Counts n before.free after.free s
-    → after.locked ≡ before.locked → Counts n (yard_of b before) (yard_of b after) s × (other_yard_of b after ≡ other_yard_of b before)
-unlocked builder.Orig n before after s other counts same = absurd (other refl)
-unlocked builder.Local n before after s other counts same = (counts, same)
-unlocked builder.Update n before after s other counts same = (counts, same)
-unlocked builder.Partree n before after s other counts same = (counts, same)
-unlocked builder.Space n before after s other counts same = (counts, same)
-
 pub serves_unlocked : (o : Choices) (before after : Ports) (y z locked : YardCounts) (s : Status) → (o.plan.builder ≡ builder.Orig → ⊥)
     → ServesOptions o before after y z s → Serves (Some o) (world before locked y) (world after locked z) s
+unfolding HasServed
 serves_unlocked o before after y z locked s other h =
-    let yards = unlocked o.plan.builder (wanted (Some o) h.answers.bytes).publishes (world before locked y) (world after locked z) s other h.counts refl in
-    record { answers = h.answers; counts = yards.0; other_yard = yards.1 }
+    serves_over o (world before locked y) (world after locked z) s
+    (free_has o.plan.builder (HasServed o before after s) (world before locked y) (world after locked z) other h refl)

@@ -3,7 +3,7 @@ use Rattle.std.specs.Prelude.{ℕ, List, [], ◌∷◌, ◌++◌, Option, None, 
 use Rattle.octant_code.specs.Space.{Site}
 use Rattle.octant_code.specs.Points.{site_at}
 use Rattle.bh_model.specs.Bodies.{numbers}
-use Rattle.bh_model.specs.Trees.{Tree, depth}
+use Rattle.bh_model.specs.Trees.{Tree, cell_count, depth}
 use Rattle.bh_model.specs.Zones.{zone}
 use Rattle.bh_model.specs.declared.pull.Pull.{Pull}
 use Rattle.frame_core.specs.Engines.{EngineState, builder_pieces, frame_of}
@@ -26,12 +26,16 @@ abbrev pub tree_lines : EngineState → List TextLine
 tree_lines e = TreeLine (tree_of_bodies e.bodies) ∷ builder_lines e
 
 -- the first lines of a frame: its number, its tree, and how large that is
-abbrev pub size_lines : Tree → FrameFigures → List TextLine
-size_lines tree f =
-    Words (codes "frame") (Number f.step ∷ [])
+abbrev pub size_lines : ℕ → Tree → List TextLine
+size_lines step tree =
+    Words (codes "frame") (Number step ∷ [])
     ∷ TreeLine tree
-    ∷ Words (codes "cells") (Number f.cells ∷ Word (codes "depth") ∷ Number (depth tree) ∷ [])
+    ∷ Words (codes "cells") (Number (cell_count tree) ∷ Word (codes "depth") ∷ Number (depth tree) ∷ [])
     ∷ []
+
+-- the lines of a frame of passes: its first lines, and those of the builder
+abbrev pub pass_lines : EngineState → List TextLine
+pass_lines e = size_lines e.step (tree_of_bodies e.bodies) ++ builder_lines e
 
 -- the line of the cost of all bodies and the greatest of a zone
 abbrev pub cost_line : FrameFigures → TextLine
@@ -39,7 +43,7 @@ cost_line f = Words (codes "cost") (Number f.cost ∷ Word (codes "greatest") �
 
 -- the lines at the head of a frame: its first lines, those of the builder, and that of the cost
 abbrev pub head_lines : Tree → Option ℕ → FrameFigures → List TextLine
-head_lines tree pieces f = size_lines tree f ++ (pieces_lines pieces ++ (cost_line f ∷ []))
+head_lines tree pieces f = size_lines f.step tree ++ (pieces_lines pieces ++ (cost_line f ∷ []))
 
 -- the line of a worker's zone
 abbrev pub zone_line : ℕ → List ℕ → TextLine

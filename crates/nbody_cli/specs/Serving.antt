@@ -1,32 +1,34 @@
 -- What a run of the program answers, by what its source and its sink tell.
-use Rattle.std.specs.Prelude.{◌≡◌, ◌≤◌, ◌+◌, ◌⊎◌, ℕ, List, [], Bool, true, false, IsTrue, Option, None, Some, Result, Ok, Err, ⊤, if◌then◌else◌, length}
+use Rattle.std.specs.Prelude.{◌≡◌, ◌≤◌, ◌+◌, ◌-◌, ◌^◌, ◌⊎◌, ℕ, List, [], ◌∷◌, Bool, true, false, IsTrue, Option, None, Some, Result, Ok, Err, ⊤}
+use Rattle.std.specs.Prelude.{if◌then◌else◌, length, nat_lt}
 use Rattle.std.specs.Io.KnownBytes.{IsAtEnd}
 use Rattle.bh_model.specs.declared.plan.Builder.{Builder}
 use Rattle.bh_model.specs.declared.plan.Builder.TheVariants as builder
 use Rattle.bh_outside.specs.Outside.{Rose, Took, TookPrefix}
-use Rattle.frame_core.specs.Building.{Publications, Rises, one_for_each}
-use Rattle.frame_core.specs.Engines.{EngineState, builder_publishes, opened}
+use Rattle.frame_core.specs.Building.{Publications, Rises}
+use Rattle.frame_core.specs.Engines.{EngineState, opened, with_frame}
+use Rattle.frame_core.specs.Next.{drifted, shifted_by}
 use Rattle.shared_tree.specs.Seen.{YardCounts}
+use Rattle.scene_file.specs.Moves.{IsScene, SceneParts, pass_at}
 use Rattle.scene_file.specs.Scene.{scene_of}
-use Rattle.scene_file.specs.declared.bodies.Body.{Body}
 use Rattle.scene_file.specs.declared.fault.SceneFault.{SceneFault}
 use Rattle.scene_file.specs.declared.fault.SceneFault.TheVariants as fault
+use Rattle.scene_file.specs.declared.moves.Move.{Move}
 use Rattle.nbody_options.specs.Choices.{Choices}
 use Rattle.nbody_options.specs.declared.options.Command.{Command}
 use Rattle.nbody_options.specs.declared.options.Command.TheVariants as command
-use Rattle.nbody_cli.specs.Text.{command_text, refused_line, usage_line}
+use Rattle.nbody_cli.specs.Text.{Part, command_parts, published_by, refused_line, text_of, usage_line, without_tree}
 use Rattle.nbody_cli.specs.declared.status.Status.{Status}
 use Rattle.nbody_cli.specs.declared.status.Status.TheVariants as status
 
 -- ---- what is wanted
 
--- what is wanted of a run that meets no failure: the status that ends it, the text, whether the source is read to its end, and what the trees that are
--- made publish in the yard of their builder
+-- what is wanted of a run that meets no failure: the status that ends it, the parts of its text, each with what its tree publishes in the yard of the
+-- builder, and whether the source is read to its end
 pub record Wanted : Type 0 where
   pub status : Status
-  pub text : List ℕ
+  pub parts : List Part
   pub reads : Bool
-  pub publishes : Publications
 
 -- a command reads the scene from the source, or makes it
 abbrev pub reads_source : Command → Bool
@@ -43,33 +45,25 @@ abbrev pub status_of_fault : SceneFault → Status
 status_of_fault fault.OutOfMemory = status.Memory
 status_of_fault _ = status.Scene
 
--- what the options publish over a scene's bodies: they make one tree of these
-abbrev pub publishes : Choices → List Body → Publications
-publishes o bodies = builder_publishes (opened o.plan bodies)
-
--- nothing is published where no tree is made
-abbrev pub no_publications : Publications
-no_publications = one_for_each 0
-
--- the text of a command over the bodies of the source's scene, and what it publishes
-abbrev pub wanted_of_bodies : List ℕ → Publications → Wanted
-wanted_of_bodies text published = record { status = status.Done; text = text; reads = true; publishes = published }
-
 -- the line of the first fault of the source's scene
 abbrev pub wanted_of_fault : SceneFault → Wanted
-wanted_of_fault f = record { status = status_of_fault f; text = refused_line f; reads = true; publishes = no_publications }
+wanted_of_fault f = record { status = status_of_fault f; parts = without_tree (refused_line f) ∷ []; reads = true }
 
--- what is wanted of a command that reads the source, by the source's scene: its text over the bodies, or the line of the first fault
-abbrev pub wanted_of_scene : Choices → Result (List Body) SceneFault → Wanted
-wanted_of_scene o (Ok bodies) = wanted_of_bodies (command_text o bodies) (publishes o bodies)
+-- what is wanted of a command that reads the source, by the source's scene: its frames, or the line of the first fault
+abbrev pub wanted_of_scene : Choices → Result SceneParts SceneFault → Wanted
+wanted_of_scene o (Ok scene) = record { status = status.Done; parts = command_parts o scene; reads = true }
 wanted_of_scene o (Err f) = wanted_of_fault f
+
+-- the scene of a command that reads none: no command makes one yet
+abbrev pub no_scene : SceneParts
+no_scene = record { bodies = []; passes = [] }
 
 -- what is wanted, by the options and the bytes of the source: without options it is the usage line
 abbrev pub wanted : Option Choices → List ℕ → Wanted
-wanted None bytes = record { status = status.Usage; text = usage_line; reads = false; publishes = no_publications }
+wanted None bytes = record { status = status.Usage; parts = without_tree usage_line ∷ []; reads = false }
 wanted (Some o) bytes =
     if reads_source o.command then wanted_of_scene o (scene_of bytes)
-    else record { status = status.Done; text = command_text o []; reads = false; publishes = publishes o [] }
+    else record { status = status.Done; parts = command_parts o no_scene; reads = false }
 
 -- ---- what is read and written
 
@@ -84,19 +78,15 @@ abbrev pub ports : (left : Option (List ℕ)) (read_faults : ℕ) (written : Opt
 ports left read_faults written write_faults =
     record { left = left; read_faults = read_faults; written = written; write_faults = write_faults }
 
--- what a sink tells, beside a source that tells nothing and never fails
-abbrev pub sink_port : (written : Option (List ℕ)) (faults : ℕ) → Ports
-sink_port written faults = ports None 0 written faults
-
 -- How a run ends, by what is wanted. At the status that is wanted the text was written whole, at Done from a source that was read to its end where
 -- that is wanted. Read and Write blame the source and the sink, Memory is free, and the text was not begun at Read and is a prefix at Write and at
 -- Memory.
 abbrev pub Ends : Wanted → (before after : Ports) → Status → Type 0
 Ends w before after status.Read = IsTrue w.reads × Rose before.read_faults after.read_faults × Took before.written after.written []
-Ends w before after status.Write = Rose before.write_faults after.write_faults × TookPrefix before.written after.written w.text
-Ends w before after status.Memory = TookPrefix before.written after.written w.text
-Ends w before after status.Done = (status.Done ≡ w.status) × Took before.written after.written w.text × (IsTrue w.reads → IsAtEnd after.left)
-Ends w before after whole = (whole ≡ w.status) × Took before.written after.written w.text
+Ends w before after status.Write = Rose before.write_faults after.write_faults × TookPrefix before.written after.written (text_of w.parts)
+Ends w before after status.Memory = TookPrefix before.written after.written (text_of w.parts)
+Ends w before after status.Done = (status.Done ≡ w.status) × Took before.written after.written (text_of w.parts) × (IsTrue w.reads → IsAtEnd after.left)
+Ends w before after whole = (whole ≡ w.status) × Took before.written after.written (text_of w.parts)
 
 -- where no read and no write failed, a run ends as is wanted, or memory ran out
 abbrev pub Completes : Wanted → (before after : Ports) → Status → Type 0
@@ -117,19 +107,71 @@ pub record Answers (options : Option Choices) (before after : Ports) (answer : S
 
 -- ---- what the yards count
 
+-- a yard's counts have 64 bits
+pub record IsCounted (y : YardCounts) : Type 0 where
+  pub published : y.published ≤ 2 ^ 64 - 1
+  pub changes : y.changes ≤ 2 ^ 64 - 1
+
 -- no count fell, and none rose by more than the publications of a tree say
 abbrev pub RisesAtMost : Publications → (before after : YardCounts) → Type 0
 RisesAtMost p before after =
     (before.published ≤ after.published) × (after.published ≤ before.published + p.bodies)
     × (before.changes ≤ after.changes) × (after.changes ≤ before.changes + p.most)
 
--- How the counts of a yard stand at the end of a run whose trees publish in it: at Done they rose as that says, at Write and at Memory by no more, and
--- else they are as they were.
+-- How the counts of a yard stand at the end of a run whose trees publish in it: at Done they rose as the publications of all of them say, at Write and at
+-- Memory by no more, and else they are as they were.
 abbrev pub Counts : Publications → (before after : YardCounts) → Status → Type 0
 Counts p before after status.Done = Rises p before after
 Counts p before after status.Write = RisesAtMost p before after
 Counts p before after status.Memory = RisesAtMost p before after
 Counts p before after _ = after ≡ before
+
+-- ---- part after part
+
+-- what is seen of a run beside its source: the bytes that the sink took, where it tells them, how often it has failed, and what the builder's yard counts
+pub record Output : Type 0 where
+  pub written : Option (List ℕ)
+  pub faults : ℕ
+  pub yard : YardCounts
+
+abbrev pub output : (written : Option (List ℕ)) (faults : ℕ) (yard : YardCounts) → Output
+output written faults yard = record { written = written; faults = faults; yard = yard }
+
+abbrev pub output_of : Ports → YardCounts → Output
+output_of p yard = output p.written p.write_faults yard
+
+-- nothing was written, and no tree counted
+pub record IsStill (before after : Output) : Type 0 where
+  pub written : Took before.written after.written []
+  pub counted : after.yard ≡ before.yard
+
+-- a part was written whole, and its tree was counted
+pub record IsWhole (p : Part) (before after : Output) : Type 0 where
+  pub written : Took before.written after.written p.text
+  pub counted : Rises p.publishes before.yard after.yard
+  pub later : before.faults ≤ after.faults
+
+-- a part was begun, at most: a prefix of it was written, and at most its tree was counted
+pub record IsBegun (p : Part) (before after : Output) : Type 0 where
+  pub written : TookPrefix before.written after.written p.text
+  pub counted : RisesAtMost p.publishes before.yard after.yard
+
+-- all parts are whole, each before the next was begun
+abbrev pub AreWhole : List Part → (before after : Output) → Type 0
+AreWhole [] before after = IsStill before after
+AreWhole (p ∷ rest) before after = (between : Output) × IsWhole p before between × AreWhole rest between after
+
+-- a run stopped amid parts: in the first one, or that is whole, and it stopped amid the others
+abbrev pub StopsAmid : List Part → (before after : Output) → Type 0
+StopsAmid [] before after = IsStill before after
+StopsAmid (p ∷ rest) before after = IsBegun p before after ⊎ (between : Output) × IsWhole p before between × StopsAmid rest between after
+
+-- How far a run came with the parts of its text: at Done all are whole, and at Write and at Memory it stopped amid them.
+abbrev pub InTurn : List Part → (before after : Output) → Status → Type 0
+InTurn parts before after status.Done = AreWhole parts before after
+InTurn parts before after status.Write = StopsAmid parts before after
+InTurn parts before after status.Memory = StopsAmid parts before after
+InTurn parts before after _ = ⊤
 
 -- the builder of the options, and the default one where there are none: nothing is built then
 abbrev pub chosen_builder : Option Choices → Builder
@@ -157,30 +199,75 @@ other_yard_of _ w = w.locked
 
 -- ---- the top calls
 
--- A run of words: what it read and wrote, what the yard of its builder counted, and the other yard is as it was, whatever the status.
+-- A run of words: what it read and wrote, what the yard of its builder counted, how far it came, and the other yard is as it was, whatever the status.
 pub record Serves (options : Option Choices) (before after : World) (answer : Status) : Type 0 where
   pub answers : Answers options before.ports after.ports answer
-  pub counts : Counts (wanted options answers.bytes).publishes (yard_of (chosen_builder options) before) (yard_of (chosen_builder options) after) answer
+  pub counts : Counts (published_by (wanted options answers.bytes).parts) (yard_of (chosen_builder options) before) (yard_of (chosen_builder options) after) answer
+  pub in_turn : InTurn (wanted options answers.bytes).parts (output_of before.ports (yard_of (chosen_builder options) before))
+      (output_of after.ports (yard_of (chosen_builder options) after)) answer
   pub other_yard : other_yard_of (chosen_builder options) after ≡ other_yard_of (chosen_builder options) before
 
--- A run of options: what it read and wrote, what the yard counted that it was given, and it never ends with Usage.
+-- A run of options: what it read and wrote, what the yard counted that it was given, how far it came, and it never ends with Usage.
 pub record ServesOptions (o : Choices) (before after : Ports) (yard_before yard_after : YardCounts) (answer : Status) : Type 0 where
   pub answers : Answers (Some o) before after answer
-  pub counts : Counts (wanted (Some o) answers.bytes).publishes yard_before yard_after answer
+  pub counts : Counts (published_by (wanted (Some o) answers.bytes).parts) yard_before yard_after answer
+  pub in_turn : InTurn (wanted (Some o) answers.bytes).parts (output_of before yard_before) (output_of after yard_after) answer
   pub no_usage : answer ≡ status.Usage → ⊥
 
 -- ---- inside a run of options
 
--- the engine of the scene that the source told, which was read to its end
-pub record IsOpened (o : Choices) (left_before left_after : Option (List ℕ)) (e : EngineState) : Type 0 where
+-- the engine and the passes of the scene that the source told, which was read to its end
+pub record IsOpened (o : Choices) (left_before left_after : Option (List ℕ)) (e : EngineState) (passes : List (List Move)) : Type 0 where
   pub bytes : List ℕ
   pub told : AreLeft left_before bytes
   pub end : IsAtEnd left_after
-  pub scene : scene_of bytes ≡ Ok e.bodies
+  pub scene : scene_of bytes ≡ Ok (record { bodies = e.bodies; passes = passes })
+  pub accepted : IsScene (record { bodies = e.bodies; passes = passes })
   pub engine : e ≡ opened o.plan e.bodies
 
--- a status that ends a run before it makes a tree
-abbrev pub IsEarly : Status → Type 0
-IsEarly status.Done = ⊥
-IsEarly status.Usage = ⊥
-IsEarly _ = ⊤
+-- How a run ends that has read its scene and has no engine: the line of the scene's fault is written, or that failed, or memory ran out before.
+abbrev pub EndsEarly : Status → Result SceneParts SceneFault → (written_before : Option (List ℕ)) (faults_before : ℕ) (written_after : Option (List ℕ))
+    (faults_after : ℕ) → Type 0
+EndsEarly status.Memory scene w k v l = Took w v []
+EndsEarly status.Scene (Err f) w k v l = (status.Scene ≡ status_of_fault f) × Took w v (refused_line f)
+EndsEarly status.Write (Err f) w k v l = Rose k l × TookPrefix w v (refused_line f)
+EndsEarly _ scene w k v l = ⊥
+
+-- how a run goes on that has its engine: the parts are whole, or it stopped amid them
+abbrev pub Runs : List Part → (before after : Output) → Status → Type 0
+Runs parts before after status.Done = AreWhole parts before after
+Runs parts before after status.Write = Rose before.faults after.faults × StopsAmid parts before after
+Runs parts before after status.Memory = StopsAmid parts before after
+Runs parts before after _ = ⊥
+
+-- the same of one part
+abbrev pub RunsPart : Part → (before after : Output) → Status → Type 0
+RunsPart p before after status.Done = IsWhole p before after
+RunsPart p before after status.Write = Rose before.faults after.faults × IsBegun p before after
+RunsPart p before after status.Memory = IsBegun p before after
+RunsPart p before after _ = ⊥
+
+-- how the writing of a text ended
+abbrev pub Shows : List ℕ → (written_before : Option (List ℕ)) (faults_before : ℕ) (written_after : Option (List ℕ)) (faults_after : ℕ)
+    → Status → Type 0
+Shows text w k v l status.Done = Took w v text × (k ≤ l)
+Shows text w k v l status.Write = Rose k l × TookPrefix w v text
+Shows text w k v l status.Memory = TookPrefix w v text
+Shows text w k v l _ = ⊥
+
+-- the engine once a command has written what it tells of the tree: the command `run` has made the frame
+abbrev pub with_parts : Command → EngineState → EngineState
+with_parts command.Run e = with_frame e
+with_parts _ e = e
+
+-- the engine once its bodies moved on from the frame of a number, which was shown; after the last frame they stay
+abbrev pub moved_on : Command → ℕ → List (List Move) → ℕ → EngineState → EngineState
+moved_on command.Run steps passes number e = if nat_lt (number + 1) steps then drifted e else e
+moved_on command.Passes steps passes number e = if nat_lt number (length passes) then shifted_by (pass_at passes number) e else e
+moved_on _ steps passes number e = e
+
+-- how many frames a command writes
+abbrev pub frame_count : Command → ℕ → List (List Move) → ℕ
+frame_count command.Run steps passes = steps
+frame_count command.Passes steps passes = length passes + 1
+frame_count _ steps passes = 1

@@ -1,12 +1,15 @@
 -- What the program writes.
-use Rattle.std.specs.Prelude.{ℕ, List, [], ◌∷◌, codes}
-use Rattle.frame_core.specs.Engines.{EngineState, opened}
-use Rattle.nbody_cli.specs.Frames.{frame_lines, tree_lines}
+use Rattle.std.specs.Prelude.{ℕ, List, [], ◌∷◌, codes, map}
+use Rattle.std.specs.List.{flat_map}
+use Rattle.frame_core.specs.Building.{Publications, one_for_each}
+use Rattle.frame_core.specs.Engines.{EngineState, builder_publishes, opened}
+use Rattle.frame_core.specs.Next.{pass_frames, run_frames, sum_publications}
+use Rattle.nbody_cli.specs.Frames.{frame_lines, pass_lines, tree_lines}
 use Rattle.nbody_cli.specs.Lines.{TextLine, Words, LineItem, Word, Number, lines_text}
 use Rattle.nbody_options.specs.Choices.{Choices}
 use Rattle.nbody_options.specs.declared.options.Command.{Command}
 use Rattle.nbody_options.specs.declared.options.Command.TheVariants as command
-use Rattle.scene_file.specs.declared.bodies.Body.{Body}
+use Rattle.scene_file.specs.Moves.{SceneParts}
 use Rattle.scene_file.specs.declared.fault.SceneFault.{SceneFault}
 use Rattle.scene_file.specs.declared.fault.SceneFault.TheVariants as fault
 
@@ -23,23 +26,54 @@ refused_line (fault.OutOfRange record_number field) = refused (Word (codes "out-
 refused_line (fault.TooMany record_number) = refused (Word (codes "too-many") ∷ Number record_number ∷ [])
 refused_line (fault.MassTotal record_number) = refused (Word (codes "mass-total") ∷ Number record_number ∷ [])
 refused_line (fault.Coincident record_number earlier later) = refused (Word (codes "coincident") ∷ Number record_number ∷ Number earlier ∷ Number later ∷ [])
+refused_line (fault.BodyAfterMove record_number) = refused (Word (codes "body-after-move") ∷ Number record_number ∷ [])
+refused_line (fault.UnknownBody record_number) = refused (Word (codes "unknown-body") ∷ Number record_number ∷ [])
+refused_line (fault.MovedTwice record_number body) = refused (Word (codes "moved-twice") ∷ Number record_number ∷ Number body ∷ [])
+refused_line (fault.PassCoincident record_number earlier later) =
+    refused (Word (codes "pass-coincident") ∷ Number record_number ∷ Number earlier ∷ Number later ∷ [])
 refused_line fault.OutOfMemory = []
 
 -- the line that tells how the program is called
 abbrev pub usage_line : List ℕ
 usage_line = codes "usage: nbody tree|passes|run|trial [--builder orig|local|update|partree|space] [--workers N] [--steps N] [--theta T/Q] [--eps2 N] [--g N] [--probe NAME] [--count N] [--seed N] [--shape uniform|corner]\n"
 
--- the lines of a command by the engine that has its tree; the commands that are not served have none
-abbrev pub engine_lines : Command → EngineState → List TextLine
-engine_lines command.Tree e = tree_lines e
-engine_lines command.Run e = frame_lines e
-engine_lines command.Passes e = []
-engine_lines command.Trial e = []
+-- ---- the text of a command
 
--- the lines of a command over a scene's bodies
-abbrev pub command_lines : Command → Choices → List Body → List TextLine
-command_lines command o bodies = engine_lines command (opened o.plan bodies)
+-- the lines that a command writes of one frame; the commands that are not served write none
+abbrev pub lines_of_frame : Command → EngineState → List TextLine
+lines_of_frame command.Tree e = tree_lines e
+lines_of_frame command.Passes e = pass_lines e
+lines_of_frame command.Run e = frame_lines e
+lines_of_frame command.Trial e = []
 
--- the text of the options over a scene's bodies
-abbrev pub command_text : Choices → List Body → List ℕ
-command_text o bodies = lines_text (command_lines o.command o bodies)
+-- the frames that a command writes of a scene, each as it stands before its tree: that of the bodies, that and those after each pass, or one for each step
+abbrev pub frames_of_command : Command → Choices → SceneParts → List EngineState
+frames_of_command command.Tree o scene = opened o.plan scene.bodies ∷ []
+frames_of_command command.Passes o scene = pass_frames scene.passes (opened o.plan scene.bodies)
+frames_of_command command.Run o scene = run_frames o.steps (opened o.plan scene.bodies)
+frames_of_command command.Trial o scene = []
+
+-- a part of a text, and what the tree that is made for it publishes
+pub record Part : Type 0 where
+  pub text : List ℕ
+  pub publishes : Publications
+
+-- a part for which no tree is made
+abbrev pub without_tree : List ℕ → Part
+without_tree text = record { text = text; publishes = one_for_each 0 }
+
+-- a frame's part of the text of a command
+abbrev pub part_of_frame : Command → EngineState → Part
+part_of_frame command e = record { text = lines_text (lines_of_frame command e); publishes = builder_publishes e }
+
+-- the parts of the text of the options over a scene, frame after frame
+abbrev pub command_parts : Choices → SceneParts → List Part
+command_parts o scene = map (part_of_frame o.command) (frames_of_command o.command o scene)
+
+-- the text of parts, one after another
+abbrev pub text_of : List Part → List ℕ
+text_of parts = flat_map (λ (p : Part). p.text) parts
+
+-- what the trees of all parts publish
+abbrev pub published_by : List Part → Publications
+published_by parts = sum_publications (map (λ (p : Part). p.publishes) parts)

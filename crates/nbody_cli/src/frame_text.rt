@@ -1,11 +1,11 @@
 //! The lines of a frame.
 
 ghost use Rattle.std.specs.Prelude.{◌≡◌, [], ◌∷◌, ◌++◌, length};
-ghost use Rattle.bh_model.specs.Trees.{depth};
+ghost use Rattle.bh_model.specs.Trees.{cell_count, depth};
 ghost use Rattle.bh_outside.specs.Outside.{HasCause, Writes};
 ghost use Rattle.bh_outside.specs.Text.{Puts};
 ghost use Rattle.frame_core.specs.Engines.{WithFrame, WithTree, frame_of};
-ghost use Rattle.nbody_cli.specs.Frames.{body_line, body_lines, cost_line, frame_lines, head_lines, pieces_lines, size_lines, tree_lines, zone_line, zone_lines};
+ghost use Rattle.nbody_cli.specs.Frames.{body_line, body_lines, cost_line, frame_lines, head_lines, pass_lines, pieces_lines, size_lines, tree_lines, zone_line, zone_lines};
 ghost use Rattle.nbody_cli.specs.Lines.{line_text, lines_text};
 ghost use Rattle.octree.specs.Stored.{tree_of};
 
@@ -14,28 +14,29 @@ use bh_model::Pull;
 use bh_outside::{Failed, Sink, TextBuffer};
 use frame_core::Engine;
 use octant_code::Point;
-use octree::Octree;
+use octree::{Extent, Octree};
 use probe::Frame;
 
-/// Puts the first lines of a frame whose tree is so deep: its number, its tree, and how large that is.
+/// Puts the first lines of the frame of a number: the number, the tree, and how large that is.
 fn put_size<K: Sink>(
+    step: u32,
     tree: &Octree,
-    levels: u32,
-    frame: &Frame,
+    size: Extent,
     buffer: &mut TextBuffer,
     sink: &mut K,
 ) -> Result<(), Failed>
-    requires { levels ≡ depth (tree_of tree.now) }
-    ensures text { Puts (K.written sink.old) (K.written sink.new) buffer.old buffer.new (lines_text (size_lines (tree_of tree.now) frame.now)) result }
+    requires cells { size.cells ≡ cell_count (tree_of tree.now) }
+    requires levels { size.depth ≡ depth (tree_of tree.now) }
+    ensures text { Puts (K.written sink.old) (K.written sink.new) buffer.old buffer.new (lines_text (size_lines step (tree_of tree.now))) result }
     ensures cause { HasCause (K.faults sink.old) (K.faults sink.new) result }
 {
-    let step = [Item::Number(frame.step as u64)];
+    let step = [Item::Number(step as u64)];
     put_line(&Line::Words(b"frame", &step), buffer, sink)?;
     put_line(&Line::Tree(tree), buffer, sink)?;
     let size = [
-        Item::Number(frame.cells as u64),
+        Item::Number(size.cells as u64),
         Item::Word(b"depth"),
-        Item::Number(levels as u64),
+        Item::Number(size.depth as u64),
     ];
     put_line(&Line::Words(b"cells", &size), buffer, sink)
 }
@@ -77,20 +78,21 @@ fn put_costs<K: Sink>(
     put_lines(&[Line::Words(b"cost", &cost)], buffer, sink)
 }
 
-/// Puts the lines at the head of a frame whose tree is so deep.
+/// Puts the lines at the head of a frame whose tree is so large.
 fn put_head<K: Sink>(
     tree: &Octree,
-    levels: u32,
+    size: Extent,
     pieces: Option<u32>,
     frame: &Frame,
     buffer: &mut TextBuffer,
     sink: &mut K,
 ) -> Result<(), Failed>
-    requires { levels ≡ depth (tree_of tree.now) }
+    requires cells { size.cells ≡ cell_count (tree_of tree.now) }
+    requires levels { size.depth ≡ depth (tree_of tree.now) }
     ensures text { Puts (K.written sink.old) (K.written sink.new) buffer.old buffer.new (lines_text (head_lines (tree_of tree.now) pieces frame.now)) result }
     ensures cause { HasCause (K.faults sink.old) (K.faults sink.new) result }
 {
-    put_size(tree, levels, frame, buffer, sink)?;
+    put_size(frame.step, tree, size, buffer, sink)?;
     put_costs(pieces, frame, buffer, sink)
 }
 
@@ -201,7 +203,11 @@ fn put_frame<K: Sink>(
     ensures cause { HasCause (K.faults sink.old) (K.faults sink.new) result }
 {
     let tree = engine.octree();
-    put_head(tree, engine.depth(), engine.pieces(), frame, buffer, sink)?;
+    let size = Extent {
+        cells: frame.cells,
+        depth: engine.depth(),
+    };
+    put_head(tree, size, engine.pieces(), frame, buffer, sink)?;
     put_rows(engine, frame.bodies, buffer, sink)
 }
 
@@ -235,5 +241,28 @@ pub fn write_tree<K: Sink>(sink: &mut K, engine: &Engine) -> Result<(), Failed>
 {
     let mut buffer = TextBuffer::new();
     put_tree(engine, &mut buffer, sink)?;
+    buffer.finish(sink)
+}
+
+/// Puts the lines of a frame of passes.
+fn put_pass<K: Sink>(engine: &Engine, buffer: &mut TextBuffer, sink: &mut K) -> Result<(), Failed>
+    requires { engine.now.stage ≡ WithTree }
+    ensures text { Puts (K.written sink.old) (K.written sink.new) buffer.old buffer.new (lines_text (pass_lines engine.now)) result }
+    ensures cause { HasCause (K.faults sink.old) (K.faults sink.new) result }
+{
+    let tree = engine.octree();
+    put_size(engine.step(), tree, engine.extent(), buffer, sink)?;
+    let pieces = engine.pieces();
+    put_pieces(pieces, buffer, sink)
+}
+
+/// Writes the lines of a frame of passes.
+pub fn write_pass<K: Sink>(sink: &mut K, engine: &Engine) -> Result<(), Failed>
+    requires { engine.now.stage ≡ WithTree }
+    ensures text { Writes (K.written sink.old) (K.written sink.new) (lines_text (pass_lines engine.now)) result }
+    ensures cause { HasCause (K.faults sink.old) (K.faults sink.new) result }
+{
+    let mut buffer = TextBuffer::new();
+    put_pass(engine, &mut buffer, sink)?;
     buffer.finish(sink)
 }

@@ -2,6 +2,7 @@
 #![tactic(auto)]
 
 mod frame_text;
+mod frames;
 mod lines;
 mod service;
 mod status;

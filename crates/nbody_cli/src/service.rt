@@ -1,18 +1,17 @@
 //! The top calls.
 
-ghost use Rattle.std.specs.Prelude.{◌≡◌, [], ◌∷◌, IfErr, IfOk, IsFalse, Ok, OnOk, Some, map, string_bytes, true};
-ghost use Rattle.bh_model.specs.declared.plan.Builder.TheVariants.{Orig};
+ghost use Rattle.std.specs.Prelude.{◌≡◌, Err, IfErr, IfOk, IsFalse, Ok, OnOk, map, string_bytes, true};
 ghost use Rattle.bh_outside.specs.Outside.{KeepsSure};
-ghost use Rattle.frame_core.specs.Engines.{WithTree, opened};
+ghost use Rattle.frame_core.specs.Engines.{opened};
+ghost use Rattle.scene_file.specs.Moves.{IsScene};
 ghost use Rattle.scene_file.specs.Scene.{scene_of};
 ghost use Rattle.scene_file.specs.declared.fault.SceneFault.TheVariants.{OutOfMemory};
-ghost use Rattle.nbody_cli.specs.Frames.{frame_lines, tree_lines};
-ghost use Rattle.nbody_cli.specs.Lines.{lines_text};
-ghost use Rattle.nbody_cli.specs.Serving.{Answers, Ends, IsEarly, IsOpened, Serves, ServesOptions, needs_source, no_publications, ports, sink_port, wanted_of_bodies, wanted_of_fault, wanted_of_scene, world};
-ghost use Rattle.nbody_cli.specs.Text.{engine_lines};
-ghost use Rattle.nbody_options.specs.Options.{is_served, options_of, serves_command};
+ghost use Rattle.nbody_cli.specs.Serving.{EndsEarly, IsOpened, Serves, ServesOptions, needs_source, ports, world};
+ghost use Rattle.nbody_options.specs.Options.{is_served, options_of};
+ghost use Rattle.shared_tree.specs.Seen.{YardCounts};
+ghost use Rattle.bh_model.specs.declared.plan.Builder.TheVariants.{Orig};
 
-use crate::frame_text::{write_frame, write_tree};
+use crate::frames::{run_free, run_locked};
 use crate::status::Status;
 use crate::text::{write_refused, write_usage};
 use bh_model::Builder;
@@ -21,55 +20,16 @@ use build_gate::Gate;
 use frame_core::Engine;
 use free_tree::FreeYard;
 use locked_tree::LockedYard;
-use nbody_options::{Command, Options, OptionsFault, read_options};
-use scene_file::{MOST_BYTES, SceneFault, read_scene};
+use nbody_options::{Options, OptionsFault, read_options};
+use scene_file::{MOST_BYTES, Passes, SceneFault, read_scene};
 use std::alloc::Global;
 use std::sync::Wait;
 use std::thread::Threads;
 
-/// Writes the frame of an engine whose bodies have their tree.
-fn answer_run<R, K: Sink>(rt: &R, engine: &mut Engine, sink: &mut K) -> Status
-    requires { engine.old.stage ≡ WithTree }
-    ensures { Ends (wanted_of_bodies (lines_text (frame_lines engine.old)) no_publications) (sink_port (K.written sink.old) (K.faults sink.old)) (sink_port (K.written sink.new) (K.faults sink.new)) result }
-{
-    match engine.frame(rt) {
-        Ok(frame) => match write_frame(sink, engine, &frame) {
-            Ok(()) => Status::Done,
-            Err(_) => Status::Write,
-        },
-        Err(_) => Status::Memory,
-    }
-}
-
-/// Writes the lines of the tree of an engine.
-fn answer_tree<K: Sink>(engine: &Engine, sink: &mut K) -> Status
-    requires { engine.now.stage ≡ WithTree }
-    ensures { Ends (wanted_of_bodies (lines_text (tree_lines engine.now)) no_publications) (sink_port (K.written sink.old) (K.faults sink.old)) (sink_port (K.written sink.new) (K.faults sink.new)) result }
-{
-    match write_tree(sink, engine) {
-        Ok(()) => Status::Done,
-        Err(_) => Status::Write,
-    }
-}
-
-/// Writes the text of a command once the engine's bodies have their tree.
-fn answer<R, K: Sink>(rt: &R, command: Command, engine: &mut Engine, sink: &mut K) -> Status
-    requires tree { engine.old.stage ≡ WithTree }
-    requires served { serves_command command ≡ true }
-    ensures { Ends (wanted_of_bodies (lines_text (engine_lines command engine.old)) no_publications) (sink_port (K.written sink.old) (K.faults sink.old)) (sink_port (K.written sink.new) (K.faults sink.new)) result }
-{
-    match command {
-        Command::Tree => answer_tree(engine, sink),
-        Command::Run => answer_run(rt, engine, sink),
-        Command::Passes | Command::Trial => unreachable!(),
-    }
-}
-
 /// Writes the line of a scene's fault, which ends the run.
 fn answer_fault<K: Sink>(sink: &mut K, fault: SceneFault) -> Status
     requires { fault ≡ OutOfMemory → ⊥ }
-    ensures ends { Ends (wanted_of_fault fault) (sink_port (K.written sink.old) (K.faults sink.old)) (sink_port (K.written sink.new) (K.faults sink.new)) result }
-    ensures early { IsEarly result }
+    ensures { EndsEarly result (Err fault) (K.written sink.old) (K.faults sink.old) (K.written sink.new) (K.faults sink.new) }
 {
     match write_refused(sink, fault) {
         Ok(()) => Status::Scene,
@@ -77,42 +37,46 @@ fn answer_fault<K: Sink>(sink: &mut K, fault: SceneFault) -> Status
     }
 }
 
-/// The engine of the scene of the bytes. Where there is none, the line of the scene's fault is written,
-/// and the status that ends the run is the error.
+/// The engine of the scene of the bytes, and its passes. Where there is none, the line of the scene's
+/// fault is written, and the status that ends the run is the error.
 fn open_scene<K: Sink>(
     alloc: Global,
     options: &Options,
     bytes: &[u8],
     sink: &mut K,
-) -> Result<Engine, Status>
-    ensures opened { IfOk result (λ e. (scene_of bytes.now ≡ Ok e.bodies) × (e ≡ opened options.now.plan e.bodies)) }
+) -> Result<(Engine, Passes), Status>
+    ensures scene { IfOk result (λ r. scene_of bytes.now ≡ Ok (record { bodies = r.0.bodies; passes = r.1 })) }
+    ensures accepted { IfOk result (λ r. IsScene (record { bodies = r.0.bodies; passes = r.1 })) }
+    ensures engine { IfOk result (λ r. r.0 ≡ opened options.now.plan r.0.bodies) }
     ensures silent { OnOk result (sink.new ≡ sink.old) }
-    ensures ended { IfErr result (λ s. Ends (wanted_of_scene options.now (scene_of bytes.now)) (sink_port (K.written sink.old) (K.faults sink.old)) (sink_port (K.written sink.new) (K.faults sink.new)) s) }
-    ensures early { IfErr result IsEarly }
+    ensures ended { IfErr result (λ s. EndsEarly s (scene_of bytes.now) (K.written sink.old) (K.faults sink.old) (K.written sink.new) (K.faults sink.new)) }
 {
-    match read_scene(alloc, bytes) {
-        Ok(scene) => match Engine::open(alloc, options.plan, scene.bodies) {
-            Ok(engine) => Ok(engine),
-            Err(_) => Err(Status::Memory),
-        },
-        Err(SceneFault::OutOfMemory) => Err(Status::Memory),
-        Err(fault) => Err(answer_fault(sink, fault)),
+    let scene = match read_scene(alloc, bytes) {
+        Ok(scene) => scene,
+        Err(SceneFault::OutOfMemory) => return Err(Status::Memory),
+        Err(fault) => return Err(answer_fault(sink, fault)),
+    };
+    let passes = scene.passes;
+    match Engine::open(alloc, options.plan, scene.bodies) {
+        Ok(engine) => Ok((engine, passes)),
+        Err(_) => Err(Status::Memory),
     }
 }
 
-/// The engine of the scene that the source tells, which is read to its end before anything is written.
-/// Where there is none, the status that ends the run is the error.
+/// The engine of the scene that the source tells, which is read to its end before anything is written,
+/// and the scene's passes. Where there is none, the status that ends the run is the error, and no yard
+/// has counted anything.
 fn open_engine<S: Source, K: Sink>(
     alloc: Global,
     options: &Options,
     source: &mut S,
     sink: &mut K,
-) -> Result<Engine, Status>
+) -> Result<(Engine, Passes), Status>
     requires { is_served options.now ≡ true }
-    ensures opened { IfOk result (IsOpened options.now (S.left source.old) (S.left source.new)) }
+    ensures opened { IfOk result (λ r. IsOpened options.now (S.left source.old) (S.left source.new) r.0 r.1) }
     ensures silent { OnOk result (sink.new ≡ sink.old) }
-    ensures ended { IfErr result (Answers (Some options.now) (ports (S.left source.old) (S.faults source.old) (K.written sink.old) (K.faults sink.old)) (ports (S.left source.new) (S.faults source.new) (K.written sink.new) (K.faults sink.new))) }
-    ensures early { IfErr result IsEarly }
+    ensures ended { IfErr result (λ s. (yard : YardCounts) → ServesOptions options.now (ports (S.left source.old) (S.faults source.old) (K.written sink.old) (K.faults sink.old))
+        (ports (S.left source.new) (S.faults source.new) (K.written sink.new) (K.faults sink.new)) yard yard s) }
     ensures sure { KeepsSure (S.sure source.old) (S.sure source.new) (S.faults source.old) (S.faults source.new) }
 {
     match read_all(alloc, source, MOST_BYTES) {
@@ -124,7 +88,7 @@ fn open_engine<S: Source, K: Sink>(
 }
 
 /// Does what options with the builder ORIG ask for, as `serve_free` does for every other builder. The
-/// workers build their tree in the yard whose trees have locks. It may wait.
+/// workers build their trees in the yard whose trees have locks. It may wait.
 fn serve_locked<R: AllocGlobal + Threads + Wait + Sync, S: Source, K: Sink, G: Gate>(
     rt: &R,
     options: &Options,
@@ -142,19 +106,17 @@ fn serve_locked<R: AllocGlobal + Threads + Wait + Sync, S: Source, K: Sink, G: G
     // The counts have 64 bits, so none falls.
     let _published = locked.published();
     let _changes = locked.changes();
-    let mut engine = match open_engine(rt.alloc(), options, source, sink) {
-        Ok(engine) => engine,
+    let (mut engine, passes) = match open_engine(rt.alloc(), options, source, sink) {
+        Ok(opened) => opened,
         Err(status) => return status,
     };
-    match engine.tree(rt, locked, gate) {
-        Ok(()) => answer(rt, options.command, &mut engine, sink),
-        Err(_) => Status::Memory,
-    }
+    run_locked(rt, options, &passes, &mut engine, locked, gate, sink)
 }
 
 /// Does what options with another builder than ORIG ask for: reads the scene from the source to its
-/// end, and writes the text to the sink. It writes nothing before the whole input is read. The workers
-/// build their tree in the yard and pass the gate. It waits for nobody.
+/// end, and writes the text to the sink, each frame before the next is begun. It writes nothing before
+/// the whole input is read. The workers build their trees in the yard and pass the gate. It waits for
+/// nobody.
 ///
 /// It reads no words, and never answers `Usage`.
 pub fn serve_free<R: AllocGlobal + Threads + Sync, S: Source, K: Sink, G: Gate>(
@@ -174,20 +136,18 @@ pub fn serve_free<R: AllocGlobal + Threads + Sync, S: Source, K: Sink, G: Gate>(
     // The counts have 64 bits, so none falls.
     let _published = free.published();
     let _changes = free.changes();
-    let mut engine = match open_engine(rt.alloc(), options, source, sink) {
-        Ok(engine) => engine,
+    let (mut engine, passes) = match open_engine(rt.alloc(), options, source, sink) {
+        Ok(opened) => opened,
         Err(status) => return status,
     };
-    match engine.tree_free(rt, free, gate) {
-        Ok(()) => answer(rt, options.command, &mut engine, sink),
-        Err(_) => Status::Memory,
-    }
+    run_free(rt, options, &passes, &mut engine, free, gate, sink)
 }
 
 /// Does what the words ask for: reads the scene from the source to its end, and writes the text to
-/// the sink. It writes nothing before the whole input is read. Where the words have no options the
-/// text is the usage line. The workers build their tree and pass the gate: ORIG's in the yard whose
-/// trees have locks, for which it may wait, and those of every other builder by `serve_free`.
+/// the sink, each frame before the next is begun. It writes nothing before the whole input is read.
+/// Where the words have no options the text is the usage line. The workers build their trees and pass
+/// the gate: ORIG's in the yard whose trees have locks, for which it may wait, and those of every
+/// other builder by `serve_free`.
 pub fn serve<R: AllocGlobal + Threads + Wait + Sync, S: Source, K: Sink, G: Gate>(
     rt: &R,
     words: &[String],

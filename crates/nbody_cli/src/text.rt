@@ -70,6 +70,31 @@ pub fn write_refused<K: Sink>(sink: &mut K, fault: SceneFault) -> Result<(), Fai
                 Item::Number(b as u64),
             ],
         ),
+        SceneFault::BodyAfterMove(r) => refuse(
+            sink,
+            &[Item::Word(b"body-after-move"), Item::Number(r as u64)],
+        ),
+        SceneFault::UnknownBody(r) => refuse(
+            sink,
+            &[Item::Word(b"unknown-body"), Item::Number(r as u64)],
+        ),
+        SceneFault::MovedTwice(r, n) => refuse(
+            sink,
+            &[
+                Item::Word(b"moved-twice"),
+                Item::Number(r as u64),
+                Item::Number(n as u64),
+            ],
+        ),
+        SceneFault::PassCoincident(r, a, b) => refuse(
+            sink,
+            &[
+                Item::Word(b"pass-coincident"),
+                Item::Number(r as u64),
+                Item::Number(a as u64),
+                Item::Number(b as u64),
+            ],
+        ),
         SceneFault::OutOfMemory => Ok(()),
     }
 }

@@ -128,8 +128,9 @@ choices_of value =
 -- the commands that are served
 abbrev pub serves_command : Command → Bool
 serves_command command.Tree = true
+serves_command command.Passes = true
 serves_command command.Run = true
-serves_command _ = false
+serves_command command.Trial = false
 
 -- the builders that are served
 abbrev pub serves_builder : Builder → Bool
@@ -144,9 +145,9 @@ abbrev pub serves_probe : ProbeChoice → Bool
 serves_probe probe.Nobody = true
 serves_probe _ = false
 
--- the program serves the choices: the commands `tree` and `run`, every builder but `update`, one step, and no probe
+-- the program serves the choices: every command but `trial`, every builder but `update`, any number of steps, and no probe
 abbrev pub is_served : Choices → Bool
-is_served c = serves_command c.command && (serves_builder c.plan.builder && (c.steps == 1 && serves_probe c.probe))
+is_served c = serves_command c.command && (serves_builder c.plan.builder && serves_probe c.probe)
 
 -- the choices, where they are served
 abbrev pub if_served : Choices → Option Choices

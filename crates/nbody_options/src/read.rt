@@ -65,13 +65,13 @@ fn command_line<'a>(alloc: Global) -> Result<clap::Command<'a>, AllocError>
 fn is_served(options: &Options) -> bool
     ensures { result ≡ is_served options.now }
 {
-    matches!(options.command, Command::Tree | Command::Run)
-        && matches!(
-            options.plan.builder,
-            Builder::Orig | Builder::Local | Builder::Partree | Builder::Space
-        )
-        && options.steps == 1
-        && matches!(options.probe, ProbeChoice::Nobody)
+    matches!(
+        options.command,
+        Command::Tree | Command::Passes | Command::Run
+    ) && matches!(
+        options.plan.builder,
+        Builder::Orig | Builder::Local | Builder::Partree | Builder::Space
+    ) && matches!(options.probe, ProbeChoice::Nobody)
 }
 
 /// The options of the words that follow the program's name.

@@ -13,6 +13,8 @@ mod frames;
 #[cfg(test)]
 mod made;
 #[cfg(test)]
+mod moving;
+#[cfg(test)]
 mod plain;
 #[cfg(test)]
 mod regions;
@@ -20,6 +22,8 @@ mod regions;
 mod rows;
 #[cfg(test)]
 mod serving;
+#[cfg(test)]
+mod steps;
 #[cfg(test)]
 mod tables;
 #[cfg(test)]

@@ -78,11 +78,9 @@ fn words_out_of_the_plain_form_are_refused(rt: HostRuntime) -> Result<(), Fail> 
 
 #[test]
 fn what_is_not_served_is_refused(rt: HostRuntime) -> Result<(), Fail> {
-    let rows: [&[&str]; 5] = [
+    let rows: [&[&str]; 3] = [
         &["trial"],
-        &["run", "--steps", "2"],
         &["tree", "--builder", "update"],
-        &["tree", "--steps", "2"],
         &["tree", "--probe", "all"],
     ];
     for words in rows {
@@ -92,9 +90,13 @@ fn what_is_not_served_is_refused(rt: HostRuntime) -> Result<(), Fail> {
 }
 
 #[test]
-fn options_that_a_command_does_not_use_are_served(rt: HostRuntime) -> Result<(), Fail> {
-    let rows: [&[&str]; 5] = [
+fn what_is_served_has_options(rt: HostRuntime) -> Result<(), Fail> {
+    let rows: [&[&str]; 8] = [
         &["run", "--workers", "3"],
+        &["passes", "--builder", "space"],
+        &["run", "--steps", "10000"],
+        // an option that its command does not use
+        &["tree", "--steps", "2"],
         &["tree", "--builder", "local"],
         &["tree", "--builder", "partree"],
         &["run", "--builder", "space"],

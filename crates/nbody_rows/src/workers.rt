@@ -11,12 +11,16 @@ use std::sync::Wait;
 use std::test::Fail;
 use std::thread::Threads;
 
-/// The lines of a frame that are the same with each builder and any number of workers: those of its tree, of how large
-/// that is, and of its bodies.
+/// The lines of frames that are the same with each builder and any number of workers: those of their numbers, of their trees,
+/// of how large these are, and of their bodies.
 fn common_lines(alloc: Global, text: &[u8]) -> Result<Vec<u8>, Fail> {
     let mut lines: Vec<u8> = Vec::new(alloc);
     for line in text.split(|byte| *byte == b'\n') {
-        if line.starts_with(b"tree ") || line.starts_with(b"cells ") || line.starts_with(b"acc ") {
+        if line.starts_with(b"frame ")
+            || line.starts_with(b"tree ")
+            || line.starts_with(b"cells ")
+            || line.starts_with(b"acc ")
+        {
             lines.extend_from_slice(line)?;
             lines.push(b'\n')?;
         }
@@ -46,7 +50,7 @@ fn is_common<R: Abort + AllocGlobal + Threads + Wait + Sync>(
     scene: &[u8],
 ) -> Result<(), Fail> {
     let alone = lines_with(rt, line, scene, "orig", 1)?;
-    assert!(rt; alone.starts_with(b"tree "));
+    assert!(rt; alone.starts_with(b"frame 0\ntree "));
     for builder in ["orig", "local", "partree", "space"] {
         for workers in [1, 3, 8, 64] {
             let together = lines_with(rt, line, scene, builder, workers)?;
@@ -86,6 +90,18 @@ fn trees_and_pulls_are_the_same_with_each_builder_and_any_workers(
         is_common(&rt, line, scene)?;
     }
     is_common(&rt, "run", &made_bodies(rt.alloc())?)
+}
+
+#[test]
+fn frames_of_steps_and_of_passes_are_the_same_with_each_builder_and_any_workers(
+    rt: HostRuntime,
+) -> Result<(), Fail> {
+    is_common(&rt, "run --steps 3", &made_bodies(rt.alloc())?)?;
+    let mut moved = made_bodies(rt.alloc())?;
+    moved.extend_from_slice(
+        b"move,0,5,6,7\nmove,63,1,2,3\npass\npass\nmove,5,2097151,0,0\nmove,0,0,0,0\npass\nmove,9,5,6,7\n",
+    )?;
+    is_common(&rt, "passes", &moved)
 }
 
 /// Two workers of a builder meet over 64 bodies.

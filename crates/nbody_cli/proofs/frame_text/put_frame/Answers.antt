@@ -1,5 +1,5 @@
 use Rattle.std.proofs.Common.{◌≡◌, ◌++◌, ◌∙◌, List, Option, ℕ, ap, subst, sym}
-use Rattle.bh_model.specs.Trees.{Tree, depth}
+use Rattle.bh_model.specs.Trees.{Tree, cell_count, depth}
 use Rattle.bh_outside.specs.Text.{PutsAll, PutsFront}
 use Rattle.frame_core.specs.Engines.{EngineState, WithFrame, builder_pieces, frame_of, where_built}
 use Rattle.frame_core.specs.Frames.{tree_of_bodies}
@@ -19,8 +19,12 @@ head_is t t' p p' f f' trees pieces figures =
 told_is : (e : EngineState) (p : Option ℕ) → e.stage ≡ WithFrame → p ≡ where_built e.stage (builder_pieces e) → p ≡ builder_pieces e
 told_is e p frame told = told ∙ ap (λ s. where_built s (builder_pieces e)) frame
 
-pub put_head-requires : goal.put_head-requires
-put_head-requires g c = c.depth.ensures ∙ sym (ap depth c.octree-tree.ensures.tree)
+pub put_head-requires-clause-cells : goal.put_head-requires-clause-cells
+put_head-requires-clause-cells g c =
+    ap (λ (f : FrameFigures). f.cells) c.frame.view_is ∙ ap (λ (f : FrameFigures). f.cells) c.requires.figures ∙ sym (ap cell_count c.octree-tree.ensures.tree)
+
+pub put_head-requires-clause-levels : goal.put_head-requires-clause-levels
+put_head-requires-clause-levels g c = c.depth.ensures ∙ sym (ap depth c.octree-tree.ensures.tree)
 
 pub returns-in_err-put_head-clause-text : goal.returns-in_err-put_head-clause-text
 returns-in_err-put_head-clause-text g c =

@@ -1,4 +1,4 @@
-use Rattle.std.proofs.Common.{◌≡◌, ◌∙◌, ◌∷◌, Option, ℕ, ap, subst}
+use Rattle.std.proofs.Common.{◌≡◌, ◌∙◌, Option, ℕ, ap, subst}
 use Rattle.bh_model.specs.Trees.{Tree}
 use Rattle.bh_outside.specs.Text.{Puts, PutsAll, PutsFront}
 use Rattle.frame_core.specs.Engines.{EngineState, WithTree, builder_pieces, where_built}

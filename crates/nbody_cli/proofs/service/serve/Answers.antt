@@ -1,11 +1,9 @@
-use Rattle.std.proofs.Common.{◌≡◌, map, refl, rules}
+use Rattle.std.proofs.Common.{◌≡◌, map, rules}
 use Rattle.std.specs.Prelude.{string_bytes}
 use Rattle.bh_model.specs.declared.plan.Builder.TheVariants.{Orig}
 use Rattle.nbody_options.proofs.Served.{options_are_served}
 use Rattle.nbody_options.specs.Options.{options_of}
-use Rattle.nbody_cli.proofs.Serving.{needs, serves_locked, serves_memory, serves_unlocked, serves_usage, stayed}
-use Rattle.nbody_cli.specs.Serving.{no_publications}
-use Rattle.nbody_cli.specs.declared.status.Status.TheVariants as status
+use Rattle.nbody_cli.proofs.Serving.{needs, serves_locked, serves_memory, serves_no_usage, serves_unlocked, serves_usage}
 use Rattle.nbody_cli.proofs.service.serve.Goals as goal
 
 pub serve_locked-requires-clause-served : goal.serve_locked-requires-clause-served
@@ -40,10 +38,10 @@ returns-in-Err-OutOfMemory-clause-serves g c =
 
 pub returns-in-Ok-write_usage-clause-serves : goal.returns-in-Ok-write_usage-clause-serves
 returns-in-Ok-write_usage-clause-serves g c =
-    serves_usage (options_of (map string_bytes c.args.words.now)) _ _ c.args.locked.now c.args.free.now status.Usage
-    (rw c.in-Err-Usage.field-0-is at c.in-Err-Usage.ensures) (refl, c.in-Ok-write_usage.ensures.text) refl
+    serves_usage (options_of (map string_bytes c.args.words.now)) _ _ _ _ _ _ c.args.locked.now c.args.free.now
+    (rw c.in-Err-Usage.field-0-is at c.in-Err-Usage.ensures) c.in-Ok-write_usage.ensures.text
 
 pub returns-in-Err-clause-serves : goal.returns-in-Err-clause-serves
 returns-in-Err-clause-serves g c =
-    serves_usage (options_of (map string_bytes c.args.words.now)) _ _ c.args.locked.now c.args.free.now status.Write
-    (rw c.in-Err-Usage.field-0-is at c.in-Err-Usage.ensures) (c.in-Err.ensures.cause.failed, c.in-Err.ensures.text) (stayed no_publications c.args.locked.now)
+    serves_no_usage (options_of (map string_bytes c.args.words.now)) _ _ _ _ _ _ c.args.locked.now c.args.free.now
+    (rw c.in-Err-Usage.field-0-is at c.in-Err-Usage.ensures) c.in-Err.ensures.cause.failed c.in-Err.ensures.text

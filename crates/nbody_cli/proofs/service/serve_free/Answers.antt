@@ -1,21 +1,19 @@
-use Rattle.std.proofs.Common.{◌≡◌, Some, ap, arith}
-use Rattle.nbody_options.specs.Choices.{Choices}
-use Rattle.nbody_cli.proofs.Serving.{answers_memory, is_free, options_early, options_made}
+use Rattle.std.proofs.Common.{List, arith, subst}
+use Rattle.nbody_cli.specs.Serving.{IsCounted, Runs, output}
+use Rattle.nbody_cli.specs.Text.{Part, command_parts}
+use Rattle.nbody_cli.proofs.Serving.{options_ran, serves_its_command}
 use Rattle.nbody_cli.proofs.service.serve_free.Goals as goal
 
-pub tree_free-requires-clause-builder : goal.tree_free-requires-clause-builder
-tree_free-requires-clause-builder g c κs within =
-    is_free c.args.options.now c.in-Ok.engine c.requires.served c.requires.builder c.in-Ok.ensures.opened.engine
-
-pub returns-in-Ok-tree_free-clause-serves : goal.returns-in-Ok-tree_free-clause-serves
-returns-in-Ok-tree_free-clause-serves g c =
-    let named : c.options.inside.command ≡ c.args.options.now.command = ap (λ (o : Choices). o.command) c.options.view_is in
-    options_made c.args.options.now c.in-Ok.engine c.tree_free.new.self _ _ _ _ _ _ _ _ c.args.free.now c.tree_free.new.free c.answer.result
-    c.requires.served c.in-Ok.ensures.opened c.in-Ok-tree_free.ensures.made
-    (omega (arith, c.published-published.type_inv, c.published-published.ensures))
-    (omega (arith, c.changes-changes.type_inv, c.changes-changes.ensures)) c.in-Ok-tree_free.ensures.counts
-    (rw c.in-Ok.ensures.silent at (rw named at c.answer.ensures))
+pub run_free-requires-clause-served : goal.run_free-requires-clause-served
+run_free-requires-clause-served g c κs within = serves_its_command c.args.options.now c.requires.served
 
 pub returns-clause-serves : goal.returns-clause-serves
 returns-clause-serves g c =
-    rw c.in-Err-tree_free.ensures.kept (rw c.in-Ok.ensures.silent (options_early c.args.options.now _ _ _ _ tt (answers_memory (Some c.args.options.now) _ _ _ _ _ _ _)))
+    let yard = c.args.free.now in
+    let counted : IsCounted yard = record { published = omega arith; changes = omega arith } in
+    let parts : List Part = command_parts c.args.options.now (record { bodies = c.in-Ok.opened.0.bodies; passes = c.in-Ok.opened.1 }) in
+    let ran = subst (λ k. Runs parts (output (g.K.Sink.written k) (g.K.Sink.faults k) yard)
+    (output (g.K.Sink.written c.run_free.new.sink) (g.K.Sink.faults c.run_free.new.sink) c.run_free.new.free) c.run_free.result) c.in-Ok.ensures.silent
+    c.run_free.ensures in
+    options_ran c.args.options.now c.in-Ok.opened.0 c.in-Ok.opened.1 _ _ _ _ _ _ _ _ yard c.run_free.new.free c.run_free.result c.requires.served
+    c.in-Ok.ensures.opened counted ran

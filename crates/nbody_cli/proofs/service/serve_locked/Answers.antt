@@ -1,17 +1,19 @@
-use Rattle.std.proofs.Common.{◌≡◌, Some, ap, arith}
-use Rattle.nbody_options.specs.Choices.{Choices}
-use Rattle.nbody_cli.proofs.Serving.{answers_memory, options_early, options_made}
+use Rattle.std.proofs.Common.{List, arith, subst}
+use Rattle.nbody_cli.specs.Serving.{IsCounted, Runs, output}
+use Rattle.nbody_cli.specs.Text.{Part, command_parts}
+use Rattle.nbody_cli.proofs.Serving.{options_ran, serves_its_command}
 use Rattle.nbody_cli.proofs.service.serve_locked.Goals as goal
 
-pub returns-in-Ok-tree-clause-serves : goal.returns-in-Ok-tree-clause-serves
-returns-in-Ok-tree-clause-serves g c =
-    let named : c.options.inside.command ≡ c.args.options.now.command = ap (λ (o : Choices). o.command) c.options.view_is in
-    options_made c.args.options.now c.in-Ok.engine c.tree.new.self _ _ _ _ _ _ _ _ c.args.locked.now c.tree.new.locked c.answer.result
-    c.requires.served c.in-Ok.ensures.opened c.in-Ok-tree.ensures.made
-    (omega (arith, c.published-published.type_inv, c.published-published.ensures))
-    (omega (arith, c.changes-changes.type_inv, c.changes-changes.ensures)) c.in-Ok-tree.ensures.counts
-    (rw c.in-Ok.ensures.silent at (rw named at c.answer.ensures))
+pub run_locked-requires-clause-served : goal.run_locked-requires-clause-served
+run_locked-requires-clause-served g c κs within = serves_its_command c.args.options.now c.requires.served
 
 pub returns-clause-serves : goal.returns-clause-serves
 returns-clause-serves g c =
-    rw c.in-Err-tree.ensures.kept (rw c.in-Ok.ensures.silent (options_early c.args.options.now _ _ _ _ tt (answers_memory (Some c.args.options.now) _ _ _ _ _ _ _)))
+    let yard = c.args.locked.now in
+    let counted : IsCounted yard = record { published = omega arith; changes = omega arith } in
+    let parts : List Part = command_parts c.args.options.now (record { bodies = c.in-Ok.opened.0.bodies; passes = c.in-Ok.opened.1 }) in
+    let ran = subst (λ k. Runs parts (output (g.K.Sink.written k) (g.K.Sink.faults k) yard)
+    (output (g.K.Sink.written c.run_locked.new.sink) (g.K.Sink.faults c.run_locked.new.sink) c.run_locked.new.locked) c.run_locked.result) c.in-Ok.ensures.silent
+    c.run_locked.ensures in
+    options_ran c.args.options.now c.in-Ok.opened.0 c.in-Ok.opened.1 _ _ _ _ _ _ _ _ yard c.run_locked.new.locked c.run_locked.result c.requires.served
+    c.in-Ok.ensures.opened counted ran

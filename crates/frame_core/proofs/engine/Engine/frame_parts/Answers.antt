@@ -1,20 +1,23 @@
 use mir.Syntax.{w128}
 use mir.Val.{of_z, to_z}
-use Rattle.std.proofs.Common.{◌≡◌, ◌<◌, ◌≤◌, ◌^◌, ℕ, List, length, ap, subst, ◌∙◌, arith, sym}
+use Rattle.std.proofs.Common.{◌≡◌, ◌<◌, ◌≤◌, ◌^◌, ℕ, List, length, map, ap, subst, ◌∙◌, arith, sym}
 use Rattle.bh_model.specs.Bodies.{IsIn}
-use Rattle.bh_model.specs.Plans.{TreePlan}
+use Rattle.bh_model.specs.Plans.{HasWorkers, TreePlan}
 use Rattle.bh_model.specs.Trees.{Tree, cell_count, depth, order}
 use Rattle.bh_model.proofs.Totals.{total-order}
 use Rattle.bh_model.specs.Moments.{total}
 use Rattle.bh_model.specs.Zones.{cost_of, zones}
+use Rattle.build_workers.specs.Shares.{AreShares}
 use Rattle.force_walk.specs.Walks.{pulls}
 use Rattle.mass_moments.specs.Kept.{cost_at, matter_of}
 use Rattle.octree.specs.Stored.{tree_of}
 use Rattle.frame_core.specs.Frames.{frame_figures, tree_of_bodies}
 use Rattle.frame_core.proofs.Frames.{figures, met_is, pulls_count, pulls_on, push_is, same_figures}
+use Rattle.frame_core.proofs.Moved.{among_costs}
 use Rattle.frame_core.proofs.Pushes.{read_again}
 use Rattle.frame_core.proofs.Stages.{octree_of_stage}
 use Rattle.frame_core.proofs.Zones.{body_within, greatest_is, tree_is, zones_cover, zones_fit, zones_inside, zones_of}
+use Rattle.frame_core.proofs.ZoneShares.{zones_are_shares}
 use Rattle.frame_core.proofs.engine.Engine.frame_parts.Goals as goal
 
 -- the cost of a whole tree is that of its bodies
@@ -116,6 +119,9 @@ returns g c =
     let found = c.in_ok-pulls.pulls.items in
     let all : found ≡ pulls law (matter_of bodies) (length bodies) (tree_of_bodies bodies) = pulls_on law bodies (tree_of c.octree-tree.result.now) found tree
     c.in_ok-pulls.ensures.value in
+    let lists : map (λ z. z.items) c.in_ok-zones.zones.items ≡ zones (cost_at i.costs.items) i.plan.workers (tree_of_bodies bodies) =
+    c.in_ok-zones.ensures ∙ ap (zones (cost_at costs) workers) tree ∙ ap (λ cs. zones (cost_at cs) workers (tree_of_bodies bodies)) same
+    ∙ ap (λ (p : TreePlan). zones (cost_at i.costs.items) p.workers (tree_of_bodies bodies)) c.plan.view_is in
     let read : c.deref.result.now ≡ pulls law (matter_of bodies) (length bodies) (tree_of_bodies bodies) = c.deref.ensures.value ∙ all in
     let sums = c.sum_up-sums.ensures in
     let F : TreePlan → Type 0 = λ p.
@@ -133,8 +139,12 @@ returns g c =
     rw (← c.self.view_is) (record {
       figures = told ∙ ap (λ cs. frame_figures i.plan (cost_at cs) i.step bodies) same;
       depth = c.extent-size.ensures.depth ∙ ap depth tree;
-      zones =
-          c.in_ok-zones.ensures ∙ ap (zones (cost_at costs) workers) tree ∙ ap (λ cs. zones (cost_at cs) workers (tree_of_bodies bodies)) same
-          ∙ ap (λ (p : TreePlan). zones (cost_at i.costs.items) p.workers (tree_of_bodies bodies)) c.plan.view_is;
+      zones = lists;
       pulls = all ∙ ap (λ (p : TreePlan). pulls p.law (matter_of bodies) (length bodies) (tree_of_bodies bodies)) c.plan.view_is;
+      shares = subst (AreShares (length bodies)) (sym lists)
+          (zones_are_shares (cost_at i.costs.items) i.plan.workers bodies c.len-count.ensures.rule
+          (subst (λ (p : TreePlan). HasWorkers p.workers) c.plan.view_is c.plan.invariant)
+          (λ n l. (c.self.invariant.cost n 0 (omega (arith, c.self.invariant.one_cost_each))).positive));
+      costs = among_costs (length bodies) found c.len-count.ensures.rule.few
+          (pulls_count law bodies (tree_of c.octree-tree.result.now) found c.in_ok-pulls.ensures.value) c.in_ok-pulls.ensures.small;
     })

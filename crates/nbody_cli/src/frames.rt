@@ -1,0 +1,219 @@
+//! The frames of a run, one after another.
+
+ghost use Rattle.std.specs.Prelude.{◌≡◌, ◌<◌, ◌≤◌, ◌^◌, OnOk, length, true};
+ghost use Rattle.bh_model.specs.declared.plan.Builder.TheVariants.{Orig};
+ghost use Rattle.frame_core.specs.Building.{IsFree};
+ghost use Rattle.frame_core.specs.Engines.{HasTree, WithFrame, WithTree, opened, with_frame};
+ghost use Rattle.nbody_cli.specs.Frames.{frame_lines, pass_lines, tree_lines};
+ghost use Rattle.nbody_cli.specs.Lines.{lines_text};
+ghost use Rattle.nbody_cli.specs.Serving.{Runs, Shows, frame_count, moved_on, output, with_parts};
+ghost use Rattle.nbody_cli.specs.Text.{command_parts, lines_of_frame};
+ghost use Rattle.nbody_cli.specs.declared.status.Status.TheVariants.{Done};
+ghost use Rattle.nbody_options.specs.Options.{serves_command};
+ghost use Rattle.nbody_options.specs.declared.options.Command.TheVariants.{Passes as ByPasses, Run as BySteps};
+ghost use Rattle.scene_file.specs.Moves.{IsPass, IsScene, pass_at};
+
+use crate::frame_text::{write_frame, write_pass, write_tree};
+use crate::status::Status;
+use bh_outside::Sink;
+use build_gate::Gate;
+use frame_core::Engine;
+use free_tree::FreeYard;
+use locked_tree::LockedYard;
+use nbody_options::{Command, Options};
+use octant_code::OutOfMemory;
+use scene_file::{MOST_PASSES, Passes};
+use std::marker::Sync;
+use std::sync::Wait;
+use std::thread::Threads;
+
+/// Writes the lines of the tree of an engine.
+fn show_tree<K: Sink>(engine: &Engine, sink: &mut K) -> Status
+    requires { engine.now.stage ≡ WithTree }
+    ensures { Shows (lines_text (tree_lines engine.now)) (K.written sink.old) (K.faults sink.old) (K.written sink.new) (K.faults sink.new) result }
+{
+    match write_tree(sink, engine) {
+        Ok(()) => Status::Done,
+        Err(_) => Status::Write,
+    }
+}
+
+/// Writes the lines of a frame of passes.
+fn show_pass<K: Sink>(engine: &Engine, sink: &mut K) -> Status
+    requires { engine.now.stage ≡ WithTree }
+    ensures { Shows (lines_text (pass_lines engine.now)) (K.written sink.old) (K.faults sink.old) (K.written sink.new) (K.faults sink.new) result }
+{
+    match write_pass(sink, engine) {
+        Ok(()) => Status::Done,
+        Err(_) => Status::Write,
+    }
+}
+
+/// Makes the frame of an engine whose bodies have their tree, and writes its lines.
+fn show_step<R, K: Sink>(rt: &R, engine: &mut Engine, sink: &mut K) -> Status
+    requires { engine.old.stage ≡ WithTree }
+    ensures shows { Shows (lines_text (frame_lines engine.old)) (K.written sink.old) (K.faults sink.old) (K.written sink.new) (K.faults sink.new) result }
+    ensures made { result ≡ Done → engine.new ≡ with_frame engine.old }
+{
+    match engine.frame(rt) {
+        Ok(frame) => match write_frame(sink, engine, &frame) {
+            Ok(()) => Status::Done,
+            Err(_) => Status::Write,
+        },
+        Err(_) => Status::Memory,
+    }
+}
+
+/// Writes what a command tells of an engine whose bodies have their tree.
+fn show<R, K: Sink>(rt: &R, command: Command, engine: &mut Engine, sink: &mut K) -> Status
+    requires tree { engine.old.stage ≡ WithTree }
+    requires served { serves_command command ≡ true }
+    ensures shows { Shows (lines_text (lines_of_frame command engine.old)) (K.written sink.old) (K.faults sink.old) (K.written sink.new) (K.faults sink.new) result }
+    ensures made { result ≡ Done → engine.new ≡ with_parts command engine.old }
+{
+    match command {
+        Command::Tree => show_tree(engine, sink),
+        Command::Passes => show_pass(engine, sink),
+        Command::Run => show_step(rt, engine, sink),
+        Command::Trial => unreachable!(),
+    }
+}
+
+/// Moves the bodies on from the frame of a number, which was shown. The last frame has none after it.
+fn move_on(
+    options: &Options,
+    passes: &Passes,
+    number: usize,
+    engine: &mut Engine,
+) -> Result<(), OutOfMemory>
+    requires few { number < 2 ^ 32 }
+    requires frame { options.now.command ≡ BySteps → engine.old.stage ≡ WithFrame }
+    requires tree { options.now.command ≡ ByPasses → HasTree engine.old.stage }
+    requires moves { options.now.command ≡ ByPasses → number < length passes.now → IsPass engine.old.bodies (pass_at passes.now number) }
+    ensures { OnOk result (engine.new ≡ moved_on options.now.command options.now.steps passes.now number engine.old) }
+{
+    match options.command {
+        Command::Run => {
+            if number + 1 < options.steps as usize {
+                engine.drift()
+            } else {
+                Ok(())
+            }
+        }
+        Command::Passes => {
+            if number < passes.len() {
+                engine.shift(passes.pass(number))
+            } else {
+                Ok(())
+            }
+        }
+        Command::Tree | Command::Trial => Ok(()),
+    }
+}
+
+/// Shows the frame of a number, whose tree is made, and moves the bodies on from it.
+fn show_and_move_on<R, K: Sink>(
+    rt: &R,
+    options: &Options,
+    passes: &Passes,
+    number: usize,
+    engine: &mut Engine,
+    sink: &mut K,
+) -> Status
+    requires few { number < 2 ^ 32 }
+    requires tree { engine.old.stage ≡ WithTree }
+    requires served { serves_command options.now.command ≡ true }
+    requires moves { options.now.command ≡ ByPasses → number < length passes.now → IsPass engine.old.bodies (pass_at passes.now number) }
+    ensures shows { Shows (lines_text (lines_of_frame options.now.command engine.old)) (K.written sink.old) (K.faults sink.old) (K.written sink.new) (K.faults sink.new) result }
+    ensures made { result ≡ Done → engine.new ≡ moved_on options.now.command options.now.steps passes.now number (with_parts options.now.command engine.old) }
+{
+    match show(rt, options.command, engine, sink) {
+        Status::Done => match move_on(options, passes, number, engine) {
+            Ok(()) => Status::Done,
+            Err(_) => Status::Memory,
+        },
+        stopped => stopped,
+    }
+}
+
+/// How many frames the options write.
+fn frame_count(options: &Options, passes: &Passes) -> usize
+    requires { length passes.now ≤ MOST_PASSES }
+    ensures value { result ≡ frame_count options.now.command options.now.steps passes.now }
+    ensures few { result < 2 ^ 32 }
+{
+    match options.command {
+        Command::Run => options.steps as usize,
+        Command::Passes => passes.len() + 1,
+        Command::Tree | Command::Trial => 1,
+    }
+}
+
+/// The frames that the options write, one after another, of an engine whose trees ORIG makes in the yard
+/// with locks. It may wait.
+pub fn run_locked<R: Threads + Wait + Sync, K: Sink, G: Gate>(
+    rt: &R,
+    options: &Options,
+    passes: &Passes,
+    engine: &mut Engine,
+    locked: &mut LockedYard,
+    gate: &G,
+    sink: &mut K,
+) -> Status
+    requires served { serves_command options.now.command ≡ true }
+    requires builder { options.now.plan.builder ≡ Orig }
+    requires accepted { IsScene (record { bodies = engine.old.bodies; passes = passes.now }) }
+    requires opened { engine.old ≡ opened options.now.plan engine.old.bodies }
+    ensures { Runs (command_parts options.now (record { bodies = engine.old.bodies; passes = passes.now })) (output (K.written sink.old) (K.faults sink.old) locked.old)
+        (output (K.written sink.new) (K.faults sink.new) locked.new) result }
+{
+    for number in 0..frame_count(options, passes) {
+        // The counts have 64 bits, so none falls.
+        let _published = locked.published();
+        let _changes = locked.changes();
+        match engine.tree(rt, locked, gate) {
+            Ok(()) => {}
+            Err(_) => return Status::Memory,
+        }
+        match show_and_move_on(rt, options, passes, number, engine, sink) {
+            Status::Done => {}
+            stopped => return stopped,
+        }
+    }
+    Status::Done
+}
+
+/// The frames that the options write, one after another, of an engine whose trees are made by a builder
+/// that waits for nobody, as `run_locked` does for ORIG. A method of a trait can't start the threads
+/// of both, so each has its loop.
+pub fn run_free<R: Threads + Sync, K: Sink, G: Gate>(
+    rt: &R,
+    options: &Options,
+    passes: &Passes,
+    engine: &mut Engine,
+    free: &mut FreeYard,
+    gate: &G,
+    sink: &mut K,
+) -> Status
+    requires served { serves_command options.now.command ≡ true }
+    requires builder { IsFree options.now.plan.builder }
+    requires accepted { IsScene (record { bodies = engine.old.bodies; passes = passes.now }) }
+    requires opened { engine.old ≡ opened options.now.plan engine.old.bodies }
+    ensures { Runs (command_parts options.now (record { bodies = engine.old.bodies; passes = passes.now })) (output (K.written sink.old) (K.faults sink.old) free.old)
+        (output (K.written sink.new) (K.faults sink.new) free.new) result }
+{
+    for number in 0..frame_count(options, passes) {
+        // The counts have 64 bits, so none falls.
+        let _published = free.published();
+        let _changes = free.changes();
+        match engine.tree_free(rt, free, gate) {
+            Ok(()) => {}
+            Err(_) => return Status::Memory,
+        }
+        match show_and_move_on(rt, options, passes, number, engine, sink) {
+            Status::Done => {}
+            stopped => return stopped,
+        }
+    }
+    Status::Done
+}
