@@ -1,7 +1,6 @@
 """Scenes: their records, and what follows from points alone (octree, pieces), by the definitions of docs/formats.md."""
 
-import csv
-import io
+import re
 from bisect import bisect_left
 from dataclasses import dataclass, field
 
@@ -10,10 +9,18 @@ from nbody_tools.command import Refusal
 LEVELS = 21
 SIDE = 1 << LEVELS
 MOST_BODIES = 65536
+MOST_MOVES = 262144
+MOST_PASSES = 1024
 MOST_BYTES = 1 << 24
 MOST_MASS = (1 << 32) - 1
 MASSES_BELOW = 1 << 40
-FORMS = {"body": ("mass", "x", "y", "z"), "move": ("body", "x", "y", "z"), "pass": ()}
+PAST_ALL_RANGES = 1 << 64
+COORDINATES = tuple((axis, 0, SIDE - 1) for axis in "xyz")
+# What each kind of record has behind its word, with the least and the greatest number there.
+FORMS = {b"body": (("mass", 1, MOST_MASS), *COORDINATES), b"move": (("body", 0, MOST_BODIES - 1), *COORDINATES), b"pass": ()}
+LINE_ENDS = re.compile(rb"[\r\n]*")
+# A field in quotes with what joins it behind them, or a field without.
+FIELD = re.compile(rb'"([^"]*(?:""[^"]*)*)(?:"|\Z)([^,\r\n]*)|([^,\r\n]*)')
 
 
 @dataclass
@@ -32,98 +39,165 @@ class Scene:
         return points
 
 
+class Fault(Refusal):
+    """The first fault of a scene. Its line is the one that the program writes."""
+
+    def __init__(self, text, line):
+        super().__init__(text)
+        self.line = line
+
+
 def body_record(mass, point):
     return "body,%d,%d,%d,%d\n" % (mass, *point)
 
 
-def numbers_of(record, refusal):
-    """The numbers of a record's fields."""
-    names = FORMS.get(record[0])
-    if names is None or len(record) != len(names) + 1:
-        raise refusal("it is neither 'body,MASS,X,Y,Z' nor 'move,BODY,X,Y,Z' nor 'pass'")
-    numbers = []
-    for what, text in zip(names, record[1:]):
-        least, most = {"mass": (1, MOST_MASS), "body": (0, MOST_BODIES - 1)}.get(what, (0, SIDE - 1))
-        if not (text.isascii() and text.isdigit()):
-            raise refusal("%s is '%s', and no whole number" % (what, text[:40]))
-        text = text.lstrip("0") or "0"
-        if len(text) > 10 or not least <= int(text) <= most:
-            raise refusal("%s is %s, and has to be from %d to %d" % (what, text[:40], least, most))
-        numbers.append(int(text))
-    return numbers
+def records_of(data):
+    """The records of bytes, each a list of its fields."""
+    data = data.removeprefix(b"\xef\xbb\xbf")
+    at = LINE_ENDS.match(data).end()
+    while at < len(data):
+        record = []
+        while True:
+            found = FIELD.match(data, at)
+            quoted, joined, plain = found.groups()
+            record.append(plain if quoted is None else quoted.replace(b'""', b'"') + joined)
+            at = found.end()
+            if data[at:at + 1] != b",":
+                break
+            at += 1
+        yield record
+        at = LINE_ENDS.match(data, at).end()
+
+
+def number_of(text):
+    """The number of a field, or None where it is none."""
+    if not text.isdigit():
+        return None
+    text = text.lstrip(b"0")
+    return PAST_ALL_RANGES if len(text) > 19 else int(text or b"0")
 
 
 class Reader:
-    """Reads records one after another. The first fault is a refusal that tells the record."""
+    """Reads records one after another. The first fault is raised."""
 
     def __init__(self, name):
         self.name, self.n, self.scene = name, 0, Scene()
-        self.at, self.moves, self.total, self.now = {}, None, 0, None
+        self.at, self.total, self.moved = {}, 0, 0
+        # The moves of the pass that is being read, or None where there are none, and where the bodies are before it.
+        self.moves, self.now = None, []
 
-    def refusal(self, what):
-        return Refusal("%s: record %d: %s" % (self.name, self.n, what))
+    def fault(self, kind, *numbers, why):
+        text = "%s: record %d: %s" % (self.name, self.n, why)
+        return Fault(text, " ".join(map(str, ("refused", kind, self.n, *numbers))))
 
     def read(self, record):
         self.n += 1
-        numbers = numbers_of(record, self.refusal)
-        if record[0] == "body":
-            self.body(numbers[0], tuple(numbers[1:]))
-        elif record[0] == "move":
-            self.move(numbers[0], tuple(numbers[1:]))
+        numbers = list(map(number_of, record[1:]))
+        for fault in self.faults(record, numbers):
+            raise fault
+        if record[0] == b"body":
+            self.add_body(numbers[0], tuple(numbers[1:]))
+        elif record[0] == b"move":
+            self.add_move(numbers[0], tuple(numbers[1:]))
         else:
             self.end_pass()
 
-    def body(self, mass, point):
+    def faults(self, record, numbers):
+        """The faults of a record after those before it, in the order in which they are looked for."""
+        bad = list(self.faults_of_form(record, numbers))
+        if bad:
+            yield from bad
+        elif record[0] == b"body":
+            yield from self.faults_of_body(numbers[0], tuple(numbers[1:]))
+        elif record[0] == b"move":
+            yield from self.faults_of_move(numbers[0])
+        else:
+            yield from self.faults_of_pass()
+
+    def faults_of_form(self, record, numbers):
+        form = FORMS.get(record[0])
+        if form is None or len(numbers) != len(form):
+            yield self.fault("bad-record", why="it is neither 'body,MASS,X,Y,Z' nor 'move,BODY,X,Y,Z' nor 'pass'")
+            return
+        fields = [(f, what, record[f - 1].decode(errors="replace")[:40]) for f, (what, _, _) in enumerate(form, 2)]
+        for (f, what, text), number in zip(fields, numbers):
+            if number is None:
+                yield self.fault("bad-number", f, why="%s is '%s', and no whole number" % (what, text))
+                break
+        for (f, what, text), number, (_, least, most) in zip(fields, numbers, form):
+            if number is not None and not least <= number <= most:
+                yield self.fault("out-of-range", f, why="%s is %s, and has to be from %d to %d" % (what, text, least, most))
+                break
+
+    def faults_of_body(self, mass, point):
         number = len(self.scene.points)
-        self.total += mass
         if number == MOST_BODIES:
-            raise self.refusal("a scene has at most %d bodies" % MOST_BODIES)
-        if self.total >= MASSES_BELOW:
-            raise self.refusal("the masses up to here sum to 2^40 or more")
+            yield self.fault("too-many", why="a scene has at most %d bodies" % MOST_BODIES)
+        if self.total + mass >= MASSES_BELOW:
+            yield self.fault("mass-total", why="the masses up to here sum to 2^40 or more")
         if point in self.at:
-            raise self.refusal("body %d has the point of body %d" % (number, self.at[point]))
+            yield self.fault("coincident", self.at[point], number, why="body %d has the point of body %d" % (number, self.at[point]))
         if self.moves is not None or self.scene.passes:
-            raise self.refusal("a body stands after a move or a pass")
-        self.at[point] = number
+            yield self.fault("body-after-move", why="a body stands after a move or a pass")
+
+    def faults_of_move(self, body):
+        if self.moved == MOST_MOVES:
+            yield self.fault("too-many", why="a scene has at most %d moves" % MOST_MOVES)
+        if body >= len(self.scene.points):
+            yield self.fault("unknown-body", why="there is no body %d" % body)
+        if body in (self.moves or ()):
+            yield self.fault("moved-twice", body, why="body %d has been moved in this pass already" % body)
+
+    def faults_of_pass(self):
+        if len(self.scene.passes) == MOST_PASSES:
+            yield self.fault("too-many", why="a scene has at most %d passes" % MOST_PASSES)
+        first = {}
+        for body, point in enumerate(self.after_moves() if self.moves else ()):
+            if point in first:
+                why = "after this pass bodies %d and %d are at one point" % (first[point], body)
+                yield self.fault("pass-coincident", first[point], body, why=why)
+                return
+            first[point] = body
+
+    def add_body(self, mass, point):
+        self.total += mass
+        self.at[point] = len(self.scene.points)
         self.scene.masses.append(mass)
         self.scene.points.append(point)
+        self.now.append(point)
 
-    def move(self, body, point):
-        self.moves = {} if self.moves is None else self.moves
-        if body >= len(self.scene.points):
-            raise self.refusal("there is no body %d" % body)
-        if body in self.moves:
-            raise self.refusal("body %d has been moved in this pass already" % body)
+    def add_move(self, body, point):
+        self.moved += 1
+        self.moves = self.moves or {}
         self.moves[body] = point
 
+    def after_moves(self):
+        """Where the bodies are after the moves of the pass that is being read."""
+        points = list(self.now)
+        for body, point in self.moves.items():
+            points[body] = point
+        return points
+
     def end_pass(self):
-        moves, self.moves = self.moves or {}, None
-        self.scene.passes.append(list(moves.items()))
-        self.now = self.now or list(self.scene.points)
-        for body, point in moves.items():
-            self.now[body] = point
-        seen = {}
-        for body, point in enumerate(self.now if moves else ()):
-            if seen.setdefault(point, body) != body:
-                raise self.refusal("after this pass bodies %d and %d are at one point" % (seen[point], body))
+        self.now = self.after_moves() if self.moves else self.now
+        self.scene.passes.append(list((self.moves or {}).items()))
+        self.moves = None
 
     def end(self):
         """The scene. The end of the text ends a pass that has moves."""
         if self.moves is not None:
-            self.n += 1
-            self.end_pass()
+            self.read([b"pass"])
         return self.scene
 
 
 def read_scene(text, name):
-    """The scene of a text, by the rules of docs/formats.md; moves and passes are read too."""
-    if len(text) > MOST_BYTES:
-        raise Refusal("%s: the scene has more than %d bytes" % (name, MOST_BYTES))
+    """The scene of a text or of its bytes, by the rules of docs/formats.md; moves and passes are read too."""
+    data = text if isinstance(text, bytes) else text.encode()
+    if len(data) > MOST_BYTES:
+        raise Fault("%s: the scene has more than %d bytes" % (name, MOST_BYTES), "refused too-long")
     reader = Reader(name)
-    csv.field_size_limit(MOST_BYTES)
-    for record in csv.reader(io.StringIO(text.removeprefix("\ufeff"), newline="")):
-        if record:
-            reader.read(record)
+    for record in records_of(data):
+        reader.read(record)
     return reader.end()
 
 

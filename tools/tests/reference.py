@@ -1,11 +1,13 @@
 #!/usr/bin/env python3
-"""What the program writes for a run of many steps, worked out slowly from the definitions of docs/formats.md with Python's
-whole numbers. For tests only: it shares no code with the tools, so that they are tried on a text they had no hand in.
+"""What the program writes for a run of many steps and for passes, worked out slowly from the definitions of docs/formats.md
+with Python's whole numbers. For tests only: it shares no code with the tools, so that they are tried on a text they had no
+hand in.
 
     tools/tests/reference.py run [--steps N] [--workers N] [--theta T/Q] [--g N] [--eps2 N] < SCENE
+    tools/tests/reference.py passes < SCENE
     tools/tests/reference.py tree < SCENE
 
-It reads scenes of plain body records alone.
+It reads scenes without a fault, of plain records alone.
 """
 
 import argparse
@@ -130,20 +132,48 @@ def run(bodies, steps=1, workers=1, theta=(1, 1), g=UNIT, eps2=0):
         moved(exact, speeds, [pull for pull, _ in told])
 
 
+def passes(points, moves_of_passes):
+    """The text of bodies at these points and of their passes (lists of pairs of a number and a point), frame by frame."""
+    points, lines = list(points), None
+    for number, moves in enumerate([[], *moves_of_passes]):
+        for n, point in moves:
+            points[n] = point
+        if moves or lines is None:
+            tree = tree_of(points, list(range(len(points))), 0)
+            lines = "tree %s\ncells %d depth %d\n" % (text_of(tree), *size_of(tree))
+        yield "frame %d\n%s" % (number, lines)
+
+
+def read_scene(text):
+    """The bodies, as pairs of a mass and a point, and the moves of each pass."""
+    bodies, moves_of_passes, moves = [], [], []
+    for word, *numbers in (line.split(",") for line in text.split()):
+        numbers = list(map(int, numbers))
+        if word == "body":
+            bodies.append((numbers[0], tuple(numbers[1:])))
+        elif word == "move":
+            moves.append((numbers[0], tuple(numbers[1:])))
+        else:
+            moves_of_passes.append(moves)
+            moves = []
+    return bodies, moves_of_passes + [moves] if moves else moves_of_passes
+
+
 def main():
     words = argparse.ArgumentParser()
-    words.add_argument("command", choices=("run", "tree"))
+    words.add_argument("command", choices=("run", "passes", "tree"))
     for name, usual in (("steps", 1), ("workers", 1), ("g", UNIT), ("eps2", 0)):
         words.add_argument("--" + name, type=int, default=usual)
     words.add_argument("--theta", default="1/1")
     given = words.parse_args()
-    records = [line.split(",") for line in sys.stdin.read().split()]
-    bodies = [(int(it[1]), (int(it[2]), int(it[3]), int(it[4]))) for it in records]
+    bodies, moves_of_passes = read_scene(sys.stdin.read())
+    points = [point for _, point in bodies]
     if given.command == "tree":
-        print("tree " + text_of(tree_of([point for _, point in bodies], list(range(len(bodies))), 0)))
+        print("tree " + text_of(tree_of(points, list(range(len(points))), 0)))
         return
     theta = tuple(int(it) for it in given.theta.split("/"))
-    for frame in run(bodies, given.steps, given.workers, theta, given.g, given.eps2):
+    run_frames = run(bodies, given.steps, given.workers, theta, given.g, given.eps2)
+    for frame in passes(points, moves_of_passes) if given.command == "passes" else run_frames:
         sys.stdout.write(frame)
         sys.stdout.flush()
 

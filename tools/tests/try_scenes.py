@@ -168,6 +168,25 @@ class FromRuns(Tools):
                 self.assertIn(why, told)
                 self.assertEqual(told.count("\n"), 1)
 
+    def test_records_of_odd_bytes(self):
+        for data, records in ((b"", []), (b"\r\n\n\r", []), (b'""', [[b""]]), (b'"', [[b""]]), (b"a,", [[b"a", b""]]), (b'"bo"dy,"1"0', [[b"body", b"10"]]),
+                              (b'"a""b",c\r\n\n\rd', [[b'a"b', b"c"], [b"d"]]), (b'"a,\nb\r', [[b"a,\nb\r"]]), (b'a"b,"c""', [[b'a"b', b'c"']]),
+                              (b"\xef\xbb\xbf\xef\xbb\xbfbody", [[b"\xef\xbb\xbfbody"]]), (b",\n\xff\0", [[b"", b""], [b"\xff\0"]])):
+            self.assertEqual(list(scenes.records_of(data)), records, data)
+
+    def test_the_line_of_the_first_fault(self):
+        three, far = "body,1,0,0,0\nbody,1,1,0,0\nbody,1,2,0,0\n", "9" * 5000
+        for line, text in (("bad-record 4", three + "bodies,1,1\n"), ("bad-number 1 5", "body,0,0,0,x\n"), ("out-of-range 1 2", "body,0,%s,0,0\n" % far),
+                           ("out-of-range 4 3", three + "move,9,%s,0,0\n" % far), ("coincident 5 1 3", three + "pass\nbody,1,1,0,0\n"),
+                           ("body-after-move 5", three + "move,1,5,5,5\nbody,1,5,5,5\n"), ("unknown-body 4", three + "move,3,5,5,5\n"),
+                           ("moved-twice 5 2", three + "move,2,5,5,5\nmove,2,6,6,6"), ("pass-coincident 5 0 2", three + "move,2,0,0,0"),
+                           ("pass-coincident 6 1 2", three + "move,1,7,7,7\nmove,2,7,7,7\npass\n"), ("too-many 1028", three + "pass\n" * 1025),
+                           ("too-many 1029", three + "pass\n" * 1024 + "move,2,0,0,0"),
+                           ("mass-total 257", "".join("body,4294967295,%d,0,0\n" % n for n in range(257)))):
+            with self.assertRaises(scenes.Fault) as caught:
+                scenes.read_scene(text, "the scene")
+            self.assertEqual(caught.exception.line, "refused " + line)
+
     def test_the_reader_of_scenes_agrees_with_the_rules(self):
         for why, text in (("record 2: it is neither", "body,1,0,0,0\nstar,1,0,0,0\n"), ("y is 'x'", "body,1,0,x,0\n"), ("mass is 0", "body,0,0,0,0\n"),
                           ("after a move or a pass", "body,1,0,0,0\npass\nbody,1,1,0,0\n"), ("no body 1", "body,1,0,0,0\nmove,1,5,5,5\npass\n"),
