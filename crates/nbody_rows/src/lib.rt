@@ -17,6 +17,8 @@ mod moving;
 #[cfg(test)]
 mod plain;
 #[cfg(test)]
+mod private_trees;
+#[cfg(test)]
 mod regions;
 #[cfg(test)]
 mod rows;

@@ -190,7 +190,7 @@ fn plain_share(
 }
 
 /// The zones of some workers, by the real path.
-fn real_zones(
+pub fn real_zones(
     alloc: Global,
     bodies: &Bodies,
     costs: &[u32],

@@ -18,7 +18,7 @@ use std::sync::ledger::{Blank, Ledger};
 use std::test::Fail;
 
 /// A cost of 1 for each body.
-fn costs_of(alloc: Global, bodies: &Bodies) -> Result<Vec<u32>, OutOfMemory>
+pub fn costs_of(alloc: Global, bodies: &Bodies) -> Result<Vec<u32>, OutOfMemory>
     ensures one_each { IfOk result (λ costs. length costs.items ≡ length bodies.now) }
     ensures costs { IfOk result (λ costs. All IsCost costs.items) }
 {
