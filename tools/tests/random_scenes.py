@@ -273,3 +273,22 @@ def scene(seed):
         maker.spoil()
     text = Writer(maker.random).text(maker.records)
     return damaged(text, maker.random) if maker.chance(0.08) else text
+
+
+# What random bytes are made of, beside bytes of any kind.
+PIECES = (b"body", b"move", b"pass", b",", b",", b",", b"\n", b"\n", b"\r", b'"', b"0", b"1", b"2097151", b"2097152", b" ", b"-", b"\xef\xbb\xbf", b"\0",
+          b"body,1,0,0,0\n", b"body,1,0,0,1\n", b"move,0,9,9,9\n", b"pass\n", b"9" * 100)
+
+
+def some_bytes(seed):
+    """Random bytes, seldom a scene: of any kind, of the pieces of scenes, or a scene with bytes changed."""
+    choices = random.Random(seed)
+    kind = choices.random()
+    if kind < 0.2:
+        return choices.randbytes(choices.randint(0, 80))
+    if kind < 0.6:
+        return b"".join(choices.choice(PIECES) for _ in range(choices.randint(0, 40)))
+    text = scene(seed)
+    for _ in range(choices.randint(1, 3)):
+        text = damaged(text, choices)
+    return text[:choices.randint(0, len(text))] if choices.random() < 0.2 else text
