@@ -10,6 +10,7 @@ mod short_pull;
 mod term;
 mod view;
 mod walk;
+mod workers;
 
 pub use all_bodies::pulls;
 pub use bh_model::{Law, Pull};

@@ -179,18 +179,23 @@ impl Engine {
     }
 
     /// Makes the frame of the engine's number: the moments of the tree's cells, the zones of the
-    /// workers, and the pulls on all bodies.
+    /// workers, and the pulls on all bodies. The workers work these out, each those on the bodies of its
+    /// zone, and pass the gate.
     ///
     /// # Errors
     ///
     /// `OutOfMemory` for want of memory. The engine is spent then.
-    pub fn frame<R>(&mut self, rt: &R) -> Result<Frame, OutOfMemory>
+    pub fn frame<R: Threads + Sync, G: Gate>(
+        &mut self,
+        rt: &R,
+        gate: &G,
+    ) -> Result<Frame, OutOfMemory>
         requires { self.old.stage ≡ WithTree }
         ensures figures { IfOk result (λ f. f ≡ frame_of self.old) }
         ensures made { OnOk result (self.new ≡ with_frame self.old) }
         ensures refused { OnErr result (self.new.stage ≡ Spent) }
     {
-        match self.frame_parts(rt) {
+        match self.frame_parts(rt, gate) {
             Ok(parts) => {
                 let figures = parts.figures;
                 self.stage = Stage::Frame(parts);
@@ -201,8 +206,12 @@ impl Engine {
     }
 
     // The parts of the frame of the engine's number: zones are cut by the costs, and the pulls are
-    // worked out zone by zone.
-    fn frame_parts<R>(&self, rt: &R) -> Result<FrameParts, OutOfMemory>
+    // worked out zone by zone, all zones at the same time.
+    fn frame_parts<R: Threads + Sync, G: Gate>(
+        &self,
+        rt: &R,
+        gate: &G,
+    ) -> Result<FrameParts, OutOfMemory>
         requires { self.now.stage ≡ WithTree }
         ensures { IfOk result (AreParts self.now) }
     {
@@ -217,7 +226,7 @@ impl Engine {
         let moments = moments(rt, self.alloc, tree, bodies, costs)?;
         let zones = zones(self.alloc, tree, &moments, costs, plan.workers)?;
         let cut = zones.as_slice();
-        let pulls = pulls(rt, self.alloc, tree, &moments, bodies, cut, &plan.law)?;
+        let pulls = pulls(rt, self.alloc, tree, &moments, bodies, cut, &plan.law, gate)?;
         let sums = sum_up(bodies, &pulls);
         let size = tree.extent();
         let figures = Frame {

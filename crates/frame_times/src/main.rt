@@ -132,7 +132,7 @@ fn time_frame<R: Clock + Threads + Wait + Sync>(
     let mut locked = LockedYard::new();
     engine.tree(rt, &mut locked, &OpenGate)?;
     let start = Instant::now(rt)?;
-    let frame = engine.frame(rt)?;
+    let frame = engine.frame(rt, &OpenGate)?;
     Ok((since(rt, start)?, frame.met))
 }
 

@@ -49,13 +49,19 @@ fn show_pass<K: Sink>(engine: &Engine, sink: &mut K) -> Status
     }
 }
 
-/// Makes the frame of an engine whose bodies have their tree, and writes its lines.
-fn show_step<R, K: Sink>(rt: &R, engine: &mut Engine, sink: &mut K) -> Status
+/// Makes the frame of an engine whose bodies have their tree, and writes its lines. The workers pass the
+/// gate.
+fn show_step<R: Threads + Sync, K: Sink, G: Gate>(
+    rt: &R,
+    engine: &mut Engine,
+    gate: &G,
+    sink: &mut K,
+) -> Status
     requires { engine.old.stage ≡ WithTree }
     ensures shows { Shows (lines_text (frame_lines engine.old)) (K.written sink.old) (K.faults sink.old) (K.written sink.new) (K.faults sink.new) result }
     ensures made { result ≡ Done → engine.new ≡ with_frame engine.old }
 {
-    match engine.frame(rt) {
+    match engine.frame(rt, gate) {
         Ok(frame) => match write_frame(sink, engine, &frame) {
             Ok(()) => Status::Done,
             Err(_) => Status::Write,
@@ -65,7 +71,13 @@ fn show_step<R, K: Sink>(rt: &R, engine: &mut Engine, sink: &mut K) -> Status
 }
 
 /// Writes what a command tells of an engine whose bodies have their tree.
-fn show<R, K: Sink>(rt: &R, command: Command, engine: &mut Engine, sink: &mut K) -> Status
+fn show<R: Threads + Sync, K: Sink, G: Gate>(
+    rt: &R,
+    command: Command,
+    engine: &mut Engine,
+    gate: &G,
+    sink: &mut K,
+) -> Status
     requires tree { engine.old.stage ≡ WithTree }
     requires served { serves_command command ≡ true }
     ensures shows { Shows (lines_text (lines_of_frame command engine.old)) (K.written sink.old) (K.faults sink.old) (K.written sink.new) (K.faults sink.new) result }
@@ -74,7 +86,7 @@ fn show<R, K: Sink>(rt: &R, command: Command, engine: &mut Engine, sink: &mut K)
     match command {
         Command::Tree => show_tree(engine, sink),
         Command::Passes => show_pass(engine, sink),
-        Command::Run => show_step(rt, engine, sink),
+        Command::Run => show_step(rt, engine, gate, sink),
         Command::Trial => unreachable!(),
     }
 }
@@ -112,12 +124,13 @@ fn move_on(
 }
 
 /// Shows the frame of a number, whose tree is made, and moves the bodies on from it.
-fn show_and_move_on<R, K: Sink>(
+fn show_and_move_on<R: Threads + Sync, K: Sink, G: Gate>(
     rt: &R,
     options: &Options,
     passes: &Passes,
     number: usize,
     engine: &mut Engine,
+    gate: &G,
     sink: &mut K,
 ) -> Status
     requires few { number < 2 ^ 32 }
@@ -127,7 +140,7 @@ fn show_and_move_on<R, K: Sink>(
     ensures shows { Shows (lines_text (lines_of_frame options.now.command engine.old)) (K.written sink.old) (K.faults sink.old) (K.written sink.new) (K.faults sink.new) result }
     ensures made { result ≡ Done → engine.new ≡ moved_on options.now.command options.now.steps passes.now number (with_parts options.now.command engine.old) }
 {
-    match show(rt, options.command, engine, sink) {
+    match show(rt, options.command, engine, gate, sink) {
         Status::Done => match move_on(options, passes, number, engine) {
             Ok(()) => Status::Done,
             Err(_) => Status::Memory,
@@ -175,7 +188,7 @@ pub fn run_locked<R: Threads + Wait + Sync, K: Sink, G: Gate>(
             Ok(()) => {}
             Err(_) => return Status::Memory,
         }
-        match show_and_move_on(rt, options, passes, number, engine, sink) {
+        match show_and_move_on(rt, options, passes, number, engine, gate, sink) {
             Status::Done => {}
             stopped => return stopped,
         }
@@ -210,7 +223,7 @@ pub fn run_free<R: Threads + Sync, K: Sink, G: Gate>(
             Ok(()) => {}
             Err(_) => return Status::Memory,
         }
-        match show_and_move_on(rt, options, passes, number, engine, sink) {
+        match show_and_move_on(rt, options, passes, number, engine, gate, sink) {
             Status::Done => {}
             stopped => return stopped,
         }

@@ -73,7 +73,7 @@ fn agrees<R: Abort + Threads + Wait + Sync>(
     let bodies = read_scene(alloc, scene)?.bodies;
     let mut engine = Engine::open(alloc, plan, read_scene(alloc, scene)?.bodies)?;
     engine.tree(rt, &mut LockedYard::new(), &OpenGate)?;
-    let frame = engine.frame(rt)?;
+    let frame = engine.frame(rt, &OpenGate)?;
     assert_eq!(rt; frame.bodies, bodies.len());
     for n in 0..frame.bodies {
         assert_eq!(rt; engine.pull_of(n), plain_on(alloc, &bodies, &law, n)?);

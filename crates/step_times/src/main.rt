@@ -97,7 +97,7 @@ fn time_step<R: Clock + Threads + Wait + Sync>(
     make_tree(rt, builder, engine, locked, free)?;
     let tree = since(rt, start)?;
     let start = Instant::now(rt)?;
-    engine.frame(rt)?;
+    engine.frame(rt, &OpenGate)?;
     let frame = since(rt, start)?;
     let start = Instant::now(rt)?;
     engine.drift()?;
