@@ -32,12 +32,12 @@ zones-requires-clause-costs_of_bodies g c n b =
     omega (arith, body_within i.bodies c.octree-tree.result.now n octree b, c.self.invariant.one_cost_each, ap length c.as_slice-costs.ensures.value)
 
 pub pulls-requires-clause-octree : goal.pulls-requires-clause-octree
-pulls-requires-clause-octree g c =
+pulls-requires-clause-octree g c = λ κs within.
     octree_of_stage c.self.inside c.args.self.now c.in-Some.kept c.octree-tree.result.now c.self.view_is c.self.invariant c.requires c.in-Some.is
     c.octree-tree.ensures
 
 pub pulls-requires-clause-inside : goal.pulls-requires-clause-inside
-pulls-requires-clause-inside g c =
+pulls-requires-clause-inside g c = λ κs within.
     let i = c.self.inside in
     let cost = cost_at c.as_slice-costs.result.now in
     let octree = octree_of_stage i c.args.self.now c.in-Some.kept c.octree-tree.result.now c.self.view_is c.self.invariant c.requires c.in-Some.is
@@ -47,7 +47,7 @@ pulls-requires-clause-inside g c =
     zones_inside (λ z. z.items) c.as_slice-cut.result.now cost c.plan.inside.workers i.bodies c.len-count.ensures.rule cut
 
 pub pulls-requires-clause-covered : goal.pulls-requires-clause-covered
-pulls-requires-clause-covered g c =
+pulls-requires-clause-covered g c = λ κs within.
     let i = c.self.inside in
     let costs = c.as_slice-costs.result.now in
     let octree = octree_of_stage i c.args.self.now c.in-Some.kept c.octree-tree.result.now c.self.view_is c.self.invariant c.requires c.in-Some.is
