@@ -1,5 +1,5 @@
 -- Why each end of a run meets its promise.
-use Rattle.std.proofs.Common.{◌≡◌, ◌∙◌, ◌<◌, ℕ, List, [], ◌∷◌, ◌++◌, Bool, true, false, ◌&&◌, IsFalse, Option, Some, None, Result, Ok, Err, length, cond, refl}
+use Rattle.std.proofs.Common.{◌≡◌, ◌∙◌, ◌<◌, ℕ, List, [], ◌∷◌, ◌++◌, Bool, true, false, IsFalse, IsTrue, Option, Some, None, Result, Ok, Err, length, map, cond, refl}
 use Rattle.std.specs.Prelude.{IfErr}
 use Rattle.std.proofs.Common.{sym, ap, subst, arith, inl, inr}
 use Rattle.std.proofs.lemmas.List.{append-nil, length-append}
@@ -9,74 +9,60 @@ use Rattle.bh_outside.specs.Outside.{Rose, Took, TookPrefix}
 use Rattle.bh_outside.proofs.Takings.{took_none}
 use Rattle.bh_model.specs.declared.plan.Builder.{Builder}
 use Rattle.bh_model.specs.declared.plan.Builder.TheVariants as builder
-use Rattle.frame_core.specs.Building.{IsFree}
 use Rattle.frame_core.specs.Engines.{EngineState, opened}
 use Rattle.scene_file.specs.Moves.{IsScene, SceneParts}
 use Rattle.scene_file.specs.Scene.{scene_of}
+use Rattle.scene_file.specs.declared.bodies.Body.{Body}
 use Rattle.scene_file.specs.declared.fault.SceneFault.{SceneFault}
 use Rattle.scene_file.specs.declared.fault.SceneFault.TheVariants as fault
 use Rattle.scene_file.specs.declared.moves.Move.{Move}
 use Rattle.nbody_options.specs.Choices.{Choices}
-use Rattle.nbody_options.specs.Options.{is_served, serves_builder, serves_command}
 use Rattle.nbody_options.specs.declared.options.Command.{Command}
 use Rattle.nbody_options.specs.declared.options.Command.TheVariants as command
 use Rattle.shared_tree.specs.Seen.{YardCounts}
 use Rattle.nbody_cli.proofs.Turns.{amid_counts, amid_took, stayed, still, still_amid, whole_counts, whole_took}
 use Rattle.nbody_cli.specs.Serving.{AreLeft, Completes, Counts, Ends, EndsEarly, InTurn, IsCounted, IsOpened, Output, Ports, Runs, Serves, ServesOptions, Wanted, World}
-use Rattle.nbody_cli.specs.Serving.{chosen_builder, needs_source, no_scene, other_yard_of, output, output_of, ports, reads_source, status_of_fault, wanted}
-use Rattle.nbody_cli.specs.Serving.{wanted_of_scene, world, yard_of}
-use Rattle.nbody_cli.specs.Text.{Part, command_parts, published_by, refused_line, text_of, usage_line, without_tree}
+use Rattle.nbody_cli.specs.Serving.{chosen_builder, needs_source, other_yard_of, output, output_of, ports, reads_source, scene_made_of, status_of_fault, wanted}
+use Rattle.nbody_cli.specs.Serving.{wanted_of_frames, wanted_of_scene, world, yard_of}
+use Rattle.nbody_cli.specs.Text.{Part, command_parts, frames_of_command, part_of_frame, published_by, refused_line, text_of, usage_line, without_tree}
 use Rattle.nbody_cli.specs.declared.status.Status.{Status}
 use Rattle.nbody_cli.specs.declared.status.Status.TheVariants as status
 
 -- ---- what is wanted
 
--- a command that is served reads the source
-reads_served : (k : Command) (rest : Bool) → (serves_command k && rest) ≡ true → reads_source k ≡ true
-reads_served command.Tree rest h = refl
-reads_served command.Passes rest h = refl
-reads_served command.Run rest h = refl
-reads_served command.Trial rest h = cc
+-- where the source isn't needed, the command of the options doesn't read it
+pub reads_none : (options : Option Choices) (o : Choices) → options ≡ Some o → IsFalse (needs_source options) → IsFalse (reads_source o.command)
+reads_none options o e none = sym (ap needs_source e) ∙ none
 
-reads : (o : Choices) → is_served o ≡ true → reads_source o.command ≡ true
-reads o served = reads_served o.command _ served
+-- what a command that reads the source, or not, wants
+wanted_by : (o : Choices) (bytes : List ℕ) (test : Bool) → reads_source o.command ≡ test
+    → wanted (Some o) bytes ≡ cond test (wanted_of_scene o (scene_of bytes)) (wanted_of_frames o (scene_made_of o.made))
+wanted_by o bytes test is = ap (λ b. cond b (wanted_of_scene o (scene_of bytes)) (wanted_of_frames o (scene_made_of o.made))) is
 
--- options that are served need the source
-pub needs : (options : Option Choices) (o : Choices) → options ≡ Some o → is_served o ≡ true → IsFalse (needs_source options) → ⊥
-needs options o e served none =
-    let needed : needs_source options ≡ true = ap needs_source e ∙ reads o served in
-    cc
+wanted_is : (o : Choices) (bytes : List ℕ) → reads_source o.command ≡ true → wanted (Some o) bytes ≡ wanted_of_scene o (scene_of bytes)
+wanted_is o bytes reads = wanted_by o bytes true reads
 
--- a builder that is served is ORIG, or waits for nobody
-free_served : (k : Bool) (b : Builder) (rest : Bool) → (k && (serves_builder b && rest)) ≡ true → (b ≡ builder.Orig → ⊥) → IsFree b
-free_served true builder.Orig rest h other = absurd (other refl)
-free_served true builder.Local rest h other = tt
-free_served true builder.Update rest h other = cc
-free_served true builder.Partree rest h other = tt
-free_served true builder.Space rest h other = tt
-free_served false b rest h other = cc
+-- a trial has the same frames whatever the passes of its scene
+trial_frames : (c : Command) (o : Choices) (bodies : List Body) (passes : List (List Move)) → c ≡ command.Trial
+    → frames_of_command c o (record { bodies = bodies; passes = [] }) ≡ frames_of_command c o (record { bodies = bodies; passes = passes })
+trial_frames command.Tree o bodies passes trial = cc
+trial_frames command.Passes o bodies passes trial = cc
+trial_frames command.Run o bodies passes trial = cc
+trial_frames command.Trial o bodies passes trial = refl
 
-pub is_free : (o : Choices) → is_served o ≡ true → (o.plan.builder ≡ builder.Orig → ⊥) → IsFree o.plan.builder
-is_free o served other = free_served (serves_command o.command) o.plan.builder _ served other
-
--- the command of options that are served is served
-command_first : (k rest : Bool) → (k && rest) ≡ true → k ≡ true
-command_first true rest h = refl
-command_first false rest h = cc
-
-pub serves_its_command : (o : Choices) → is_served o ≡ true → serves_command o.command ≡ true
-serves_its_command o served = command_first (serves_command o.command) _ served
-
--- what options that are served want of a scene
-wanted_is : (o : Choices) (bytes : List ℕ) → is_served o ≡ true → wanted (Some o) bytes ≡ wanted_of_scene o (scene_of bytes)
-wanted_is o bytes served =
-    let made : Wanted = record { status = status.Done; parts = command_parts o no_scene; reads = false } in
-    ap (λ b. cond b (wanted_of_scene o (scene_of bytes)) made) (reads o served)
+-- what a trial wants over the bodies that it makes
+wanted_made : (o : Choices) (bytes : List ℕ) (bodies : List Body) (passes : List (List Move)) → o.command ≡ command.Trial
+    → bodies ≡ (scene_made_of o.made).bodies → wanted (Some o) bytes ≡ wanted_of_frames o (record { bodies = bodies; passes = passes })
+wanted_made o bytes bodies passes trial made =
+    let W : List EngineState → Wanted = λ frames. record { status = status.Done; parts = map (part_of_frame o) frames; reads = reads_source o.command } in
+    wanted_by o bytes false (ap reads_source trial)
+    ∙ ap (λ (list : List Body). wanted_of_frames o (record { bodies = list; passes = [] })) (sym made)
+    ∙ ap W (trial_frames o.command o bodies passes trial)
 
 -- whatever the scene, it has to be read
-reads_scene : (o : Choices) (scene : Result SceneParts SceneFault) → (wanted_of_scene o scene).reads ≡ true
-reads_scene o (Ok scene) = refl
-reads_scene o (Err f) = refl
+reads_scene : (o : Choices) (scene : Result SceneParts SceneFault) → reads_source o.command ≡ true → (wanted_of_scene o scene).reads ≡ true
+reads_scene o (Ok scene) reads = reads
+reads_scene o (Err f) reads = refl
 
 -- a scene of too many bytes
 long_scene : (bytes : List ℕ) → 16777216 < length bytes → scene_of bytes ≡ Err fault.TooLong
@@ -182,25 +168,25 @@ early o (Err f) l0 l1 wb wn rb rn kb kn y status.Scene h =
 early o scene l0 l1 wb wn rb rn kb kn y status.Memory h = nothing (wanted_of_scene o scene) l0 l1 wb wn rb rn kb kn y h
 
 -- a run that had its engine
-ran : (parts : List Part) (l0 l1 wb wn : Option (List ℕ)) (rb rn kb kn : ℕ) (y z : YardCounts) (s : Status) → IsAtEnd l1 → IsCounted y
-    → Runs parts (output wb kb y) (output wn kn z) s
-    → IsEnd (record { status = status.Done; parts = parts; reads = true }) (ports l0 rb wb kb) (ports l1 rn wn kn) y z s
-ran parts l0 l1 wb wn rb rn kb kn y z status.Done end counted h = record {
-  ends = (refl, whole_took parts (output wb kb y) (output wn kn z) h, λ _. end);
-  counts = whole_counts parts (output wb kb y) (output wn kn z) counted h;
+ran : (o : Choices) (scene : SceneParts) (l0 l1 wb wn : Option (List ℕ)) (rb rn kb kn : ℕ) (y z : YardCounts) (s : Status)
+    → (IsTrue (reads_source o.command) → IsAtEnd l1) → IsCounted y → Runs (command_parts o scene) (output wb kb y) (output wn kn z) s
+    → IsEnd (wanted_of_frames o scene) (ports l0 rb wb kb) (ports l1 rn wn kn) y z s
+ran o scene l0 l1 wb wn rb rn kb kn y z status.Done end counted h = record {
+  ends = (refl, whole_took (command_parts o scene) (output wb kb y) (output wn kn z) h, end);
+  counts = whole_counts (command_parts o scene) (output wb kb y) (output wn kn z) counted h;
   in_turn = h;
 }
-ran parts l0 l1 wb wn rb rn kb kn y z status.Usage end counted h = absurd h
-ran parts l0 l1 wb wn rb rn kb kn y z status.Read end counted h = absurd h
-ran parts l0 l1 wb wn rb rn kb kn y z status.Write end counted h = record {
-  ends = (h.0, amid_took parts (output wb kb y) (output wn kn z) h.1);
-  counts = amid_counts parts (output wb kb y) (output wn kn z) counted h.1;
+ran o scene l0 l1 wb wn rb rn kb kn y z status.Usage end counted h = absurd h
+ran o scene l0 l1 wb wn rb rn kb kn y z status.Read end counted h = absurd h
+ran o scene l0 l1 wb wn rb rn kb kn y z status.Write end counted h = record {
+  ends = (h.0, amid_took (command_parts o scene) (output wb kb y) (output wn kn z) h.1);
+  counts = amid_counts (command_parts o scene) (output wb kb y) (output wn kn z) counted h.1;
   in_turn = h.1;
 }
-ran parts l0 l1 wb wn rb rn kb kn y z status.Scene end counted h = absurd h
-ran parts l0 l1 wb wn rb rn kb kn y z status.Memory end counted h = record {
-  ends = amid_took parts (output wb kb y) (output wn kn z) h;
-  counts = amid_counts parts (output wb kb y) (output wn kn z) counted h;
+ran o scene l0 l1 wb wn rb rn kb kn y z status.Scene end counted h = absurd h
+ran o scene l0 l1 wb wn rb rn kb kn y z status.Memory end counted h = record {
+  ends = amid_took (command_parts o scene) (output wb kb y) (output wn kn z) h;
+  counts = amid_counts (command_parts o scene) (output wb kb y) (output wn kn z) counted h;
   in_turn = h;
 }
 
@@ -228,12 +214,12 @@ options_memory o l0 l1 rb rn wb kb kn y =
     (nothing (wanted (Some o) bytes) l0 l1 wb wb rb rn kb kn y (took_none wb))
 
 -- a read failed
-pub options_read : (o : Choices) (l0 l1 : Option (List ℕ)) (rb rn : ℕ) (wb : Option (List ℕ)) (kb kn : ℕ) (y : YardCounts) → is_served o ≡ true
-    → Rose rb rn → ServesOptions o (ports l0 rb wb kb) (ports l1 rn wb kn) y y status.Read
-options_read o l0 l1 rb rn wb kb kn y served rise =
+pub options_read : (o : Choices) (l0 l1 : Option (List ℕ)) (rb rn : ℕ) (wb : Option (List ℕ)) (kb kn : ℕ) (y : YardCounts)
+    → reads_source o.command ≡ true → Rose rb rn → ServesOptions o (ports l0 rb wb kb) (ports l1 rn wb kn) y y status.Read
+options_read o l0 l1 rb rn wb kb kn y reads rise =
     let bytes = left_or l0 [] in
     options_end o bytes (wanted_of_scene o (scene_of bytes)) (ports l0 rb wb kb) (ports l1 rn wb kn) y y status.Read (are_left l0 [])
-    (wanted_is o bytes served) (λ e. cc) (record { ends = (reads_scene o (scene_of bytes), rise, took_none wb); counts = refl; in_turn = tt })
+    (wanted_is o bytes reads) (λ e. cc) (record { ends = (reads_scene o (scene_of bytes) reads, rise, took_none wb); counts = refl; in_turn = tt })
 
 -- no early end is Usage
 early_no_usage : (scene : Result SceneParts SceneFault) (w v : Option (List ℕ)) (k l : ℕ) (s : Status) → EndsEarly s scene w k v l → s ≡ status.Usage → ⊥
@@ -246,41 +232,47 @@ early_no_usage scene w v k l status.Memory h e = cc
 
 -- a run that ended early, by the scene of its bytes
 options_early : (o : Choices) (bytes : List ℕ) (scene : Result SceneParts SceneFault) (l0 l1 wb wn : Option (List ℕ)) (rb rn kb kn : ℕ) (y : YardCounts)
-    (s : Status) → is_served o ≡ true → AreLeft l0 bytes → scene_of bytes ≡ scene → EndsEarly s scene wb kb wn kn
+    (s : Status) → reads_source o.command ≡ true → AreLeft l0 bytes → scene_of bytes ≡ scene → EndsEarly s scene wb kb wn kn
     → ServesOptions o (ports l0 rb wb kb) (ports l1 rn wn kn) y y s
-options_early o bytes scene l0 l1 wb wn rb rn kb kn y s served told is h =
+options_early o bytes scene l0 l1 wb wn rb rn kb kn y s reads told is h =
     options_end o bytes (wanted_of_scene o scene) (ports l0 rb wb kb) (ports l1 rn wn kn) y y s told
-    (wanted_is o bytes served ∙ ap (wanted_of_scene o) is) (early_no_usage scene wb wn kb kn s h) (early o scene l0 l1 wb wn rb rn kb kn y s h)
+    (wanted_is o bytes reads ∙ ap (wanted_of_scene o) is) (early_no_usage scene wb wn kb kn s h) (early o scene l0 l1 wb wn rb rn kb kn y s h)
 
 -- there were too many bytes
 pub options_long : (o : Choices) (l0 l1 : Option (List ℕ)) (given : List ℕ) (wb wn : Option (List ℕ)) (rb rn kb kn : ℕ) (y : YardCounts) (s : Status)
-    → is_served o ≡ true → Consumes l0 l1 given → 16777216 < length given → EndsEarly s (Err fault.TooLong) wb kb wn kn
+    → reads_source o.command ≡ true → Consumes l0 l1 given → 16777216 < length given → EndsEarly s (Err fault.TooLong) wb kb wn kn
     → ServesOptions o (ports l0 rb wb kb) (ports l1 rn wn kn) y y s
-options_long o l0 l1 given wb wn rb rn kb kn y s served gave long h =
-    options_early o (left_or l0 given) (Err fault.TooLong) l0 l1 wb wn rb rn kb kn y s served (are_left l0 given)
+options_long o l0 l1 given wb wn rb rn kb kn y s reads gave long h =
+    options_early o (left_or l0 given) (Err fault.TooLong) l0 l1 wb wn rb rn kb kn y s reads (are_left l0 given)
     (long_scene (left_or l0 given) (longer l0 l1 given 16777216 gave long)) h
 
 -- all bytes were read, and the run ended early
 options_scene : (o : Choices) (l0 l1 : Option (List ℕ)) (bytes : List ℕ) (wb wn : Option (List ℕ)) (rb rn kb kn : ℕ) (y : YardCounts) (s : Status)
-    → is_served o ≡ true → Consumes l0 l1 bytes → IsAtEnd l1 → EndsEarly s (scene_of bytes) wb kb wn kn
+    → reads_source o.command ≡ true → Consumes l0 l1 bytes → IsAtEnd l1 → EndsEarly s (scene_of bytes) wb kb wn kn
     → ServesOptions o (ports l0 rb wb kb) (ports l1 rn wn kn) y y s
-options_scene o l0 l1 bytes wb wn rb rn kb kn y s served gave end h =
-    options_early o bytes (scene_of bytes) l0 l1 wb wn rb rn kb kn y s served (all_left l0 l1 bytes gave end) refl h
+options_scene o l0 l1 bytes wb wn rb rn kb kn y s reads gave end h =
+    options_early o bytes (scene_of bytes) l0 l1 wb wn rb rn kb kn y s reads (all_left l0 l1 bytes gave end) refl h
 
 -- the same of what the opening of the scene answers
 pub scene_ended : {T : Type 0} (o : Choices) (l0 l1 : Option (List ℕ)) (bytes : List ℕ) (wb wn : Option (List ℕ)) (rb rn kb kn : ℕ) (r : Result T Status)
-    → is_served o ≡ true → Consumes l0 l1 bytes → IsAtEnd l1 → IfErr r (λ s. EndsEarly s (scene_of bytes) wb kb wn kn)
+    → reads_source o.command ≡ true → Consumes l0 l1 bytes → IsAtEnd l1 → IfErr r (λ s. EndsEarly s (scene_of bytes) wb kb wn kn)
     → IfErr r (λ s. (yard : YardCounts) → ServesOptions o (ports l0 rb wb kb) (ports l1 rn wn kn) yard yard s)
-scene_ended o l0 l1 bytes wb wn rb rn kb kn (Ok x) served gave end h = tt
-scene_ended o l0 l1 bytes wb wn rb rn kb kn (Err s) served gave end h =
-    λ yard. options_scene o l0 l1 bytes wb wn rb rn kb kn yard s served gave end h
+scene_ended o l0 l1 bytes wb wn rb rn kb kn (Ok x) reads gave end h = tt
+scene_ended o l0 l1 bytes wb wn rb rn kb kn (Err s) reads gave end h =
+    λ yard. options_scene o l0 l1 bytes wb wn rb rn kb kn yard s reads gave end h
 
--- all bytes were read, and have a scene
-pub opened_engine : (o : Choices) (l0 l1 : Option (List ℕ)) (bytes : List ℕ) (e : EngineState) (passes : List (List Move)) → Consumes l0 l1 bytes
-    → IsAtEnd l1 → scene_of bytes ≡ Ok (record { bodies = e.bodies; passes = passes }) → IsScene (record { bodies = e.bodies; passes = passes })
-    → e ≡ opened o.plan e.bodies → IsOpened o l0 l1 e passes
-opened_engine o l0 l1 bytes e passes gave end scene accepted engine =
-    record { bytes = bytes; told = all_left l0 l1 bytes gave end; end = end; scene = scene; accepted = accepted; engine = engine }
+-- a scene was made
+pub opened_made : (o : Choices) (l : Option (List ℕ)) (e : EngineState) (passes : List (List Move)) → o.command ≡ command.Trial
+    → e.bodies ≡ (scene_made_of o.made).bodies → IsScene (record { bodies = e.bodies; passes = passes }) → e ≡ opened o.plan e.bodies
+    → IsOpened o l l e passes
+opened_made o l e passes trial made accepted engine = record {
+  bytes = left_or l [];
+  told = are_left l [];
+  end = λ reads. (let none : reads_source o.command ≡ false = ap reads_source trial in cc);
+  scene = wanted_made o (left_or l []) e.bodies passes trial made;
+  accepted = accepted;
+  engine = engine;
+}
 
 -- a run over an engine doesn't end with Usage
 runs_no_usage : (parts : List Part) (b a : Output) (s : Status) → Runs parts b a s → s ≡ status.Usage → ⊥
@@ -293,15 +285,14 @@ runs_no_usage parts b a status.Memory h e = cc
 
 -- a run that had its engine
 pub options_ran : (o : Choices) (e : EngineState) (passes : List (List Move)) (l0 l1 wb wn : Option (List ℕ)) (rb rn kb kn : ℕ) (y z : YardCounts) (s : Status)
-    → is_served o ≡ true → IsOpened o l0 l1 e passes → IsCounted y
+    → IsOpened o l0 l1 e passes → IsCounted y
     → Runs (command_parts o (record { bodies = e.bodies; passes = passes })) (output wb kb y) (output wn kn z) s
     → ServesOptions o (ports l0 rb wb kb) (ports l1 rn wn kn) y z s
-options_ran o e passes l0 l1 wb wn rb rn kb kn y z s served has counted h =
+options_ran o e passes l0 l1 wb wn rb rn kb kn y z s has counted h =
     let scene : SceneParts = record { bodies = e.bodies; passes = passes } in
-    options_end o has.bytes (wanted_of_scene o (Ok scene)) (ports l0 rb wb kb) (ports l1 rn wn kn) y z s has.told
-    (wanted_is o has.bytes served ∙ ap (wanted_of_scene o) has.scene)
+    options_end o has.bytes (wanted_of_frames o scene) (ports l0 rb wb kb) (ports l1 rn wn kn) y z s has.told has.scene
     (runs_no_usage (command_parts o scene) (output wb kb y) (output wn kn z) s h)
-    (ran (command_parts o scene) l0 l1 wb wn rb rn kb kn y z s has.end counted h)
+    (ran o scene l0 l1 wb wn rb rn kb kn y z s has.end counted h)
 
 -- ---- runs of words
 

@@ -8,13 +8,13 @@ use Rattle.frame_core.specs.Building.{Rises}
 use Rattle.frame_core.specs.Engines.{EngineState, WithoutTree, builder_publishes, opened, with_frame, with_tree}
 use Rattle.frame_core.specs.Next.{drifted, pass_frames, run_frames, shifted_by}
 use Rattle.nbody_options.specs.Choices.{Choices}
-use Rattle.nbody_options.specs.Options.{serves_command}
 use Rattle.nbody_options.specs.declared.options.Command.{Command}
 use Rattle.nbody_options.specs.declared.options.Command.TheVariants as command
 use Rattle.nbody_cli.proofs.Turns.{GoesOn, on_begin, on_more, on_stop, part_shown, still}
+use Rattle.nbody_cli.specs.Frames.{trial_lines}
 use Rattle.nbody_cli.specs.Lines.{TextLine, lines_text}
 use Rattle.nbody_cli.specs.Serving.{IsCounted, Output, Runs, RunsPart, Shows, frame_count, moved_on, output, with_parts}
-use Rattle.nbody_cli.specs.Text.{Part, command_parts, frames_of_command, lines_of_frame, part_of_frame}
+use Rattle.nbody_cli.specs.Text.{Part, command_parts, frames_of_command, is_last, lines_of_frame, part_of_frame}
 use Rattle.nbody_cli.specs.declared.status.Status.{Status}
 use Rattle.nbody_cli.specs.declared.status.Status.TheVariants as status
 use Rattle.shared_tree.specs.Seen.{YardCounts}
@@ -70,6 +70,14 @@ pass_last : (e : EngineState) → pass_frames [] e ≡ e ∷ []
 unfolding pass_frames
 pass_last e = refl
 
+-- a trial has the frames of a run
+trial_left : (steps : ℕ) (passes : List (List Move)) (k i : ℕ) (e : EngineState)
+    → frames_left command.Trial steps passes k i e ≡ frames_left command.Run steps passes k i e
+unfolding frames_left
+trial_left steps passes zero i e = refl
+trial_left steps passes (suc k) i e =
+    ap (λ rest. e ∷ rest) (trial_left steps passes k (i + 1) (moved_on command.Run steps passes i (with_frame (with_tree e))))
+
 passes_left : (steps : ℕ) (passes : List (List Move)) (k i : ℕ) (e : EngineState) → i + k ≡ length passes
     → frames_left command.Passes steps passes (suc k) i e ≡ pass_frames (drop i passes) e
 unfolding frames_left
@@ -83,25 +91,27 @@ passes_left steps passes (suc k) i e all =
 
 -- the parts of so many frames from that of a number on
 abbrev pub parts_left : Choices → List (List Move) → (k i : ℕ) → EngineState → List Part
-parts_left o passes k i e = map (part_of_frame o.command) (frames_left o.command o.steps passes k i e)
+parts_left o passes k i e = map (part_of_frame o) (frames_left o.command o.steps passes k i e)
 
--- how many frames the options write
+-- how many frames the options make
 abbrev pub count_of : Choices → List (List Move) → ℕ
 count_of o passes = frame_count o.command o.steps passes
 
-frames_are : (c : Command) (o : Choices) (scene : SceneParts) → (c ≡ command.Trial → ⊥)
+frames_are : (c : Command) (o : Choices) (scene : SceneParts)
     → frames_left c o.steps scene.passes (frame_count c o.steps scene.passes) 0 (opened o.plan scene.bodies) ≡ frames_of_command c o scene
 unfolding frames_left
-frames_are command.Tree o scene other = refl
-frames_are command.Passes o scene other =
+frames_are command.Tree o scene = refl
+frames_are command.Passes o scene =
     let e = opened o.plan scene.bodies in
     let counted : length scene.passes + 1 ≡ suc (length scene.passes) = omega arith in
     ap (λ k. frames_left command.Passes o.steps scene.passes k 0 e) counted ∙ passes_left o.steps scene.passes (length scene.passes) 0 e (omega arith)
-frames_are command.Run o scene other = steps_left o.steps scene.passes o.steps 0 (opened o.plan scene.bodies) (omega arith)
-frames_are command.Trial o scene other = absurd (other refl)
+frames_are command.Run o scene = steps_left o.steps scene.passes o.steps 0 (opened o.plan scene.bodies) (omega arith)
+frames_are command.Trial o scene =
+    trial_left o.steps scene.passes o.steps 0 (opened o.plan scene.bodies)
+    ∙ steps_left o.steps scene.passes o.steps 0 (opened o.plan scene.bodies) (omega arith)
 
 left_more : (o : Choices) (passes : List (List Move)) (k i : ℕ) (e : EngineState)
-    → parts_left o passes (suc k) i e ≡ part_of_frame o.command e ∷ parts_left o passes k (i + 1) (next o passes i e)
+    → parts_left o passes (suc k) i e ≡ part_of_frame o e ∷ parts_left o passes k (i + 1) (next o passes i e)
 unfolding frames_left
 left_more o passes k i e = refl
 
@@ -123,14 +133,15 @@ next_builder makes command.Passes steps passes i e h =
     cond_has (λ x. makes x.plan.builder) (nat_lt i (length passes)) (shifted_by (pass_at passes i) (with_tree e)) (with_tree e) h h
 next_builder makes command.Run steps passes i e h =
     cond_has (λ x. makes x.plan.builder) (nat_lt (i + 1) steps) (drifted (with_frame (with_tree e))) (with_frame (with_tree e)) h h
-next_builder makes command.Trial steps passes i e h = h
+next_builder makes command.Trial steps passes i e h =
+    cond_has (λ x. makes x.plan.builder) (nat_lt (i + 1) steps) (drifted (with_frame (with_tree e))) (with_frame (with_tree e)) h h
 
 next_bare : (c : Command) (steps : ℕ) (passes : List (List Move)) (i : ℕ) (e : EngineState) → i + 1 < frame_count c steps passes
     → (moved_on c steps passes i (with_parts c (with_tree e))).stage ≡ WithoutTree
 next_bare command.Tree steps passes i e less = absurd (omega arith)
 next_bare command.Passes steps passes i e less = ap (λ (x : EngineState). x.stage) (shifts steps passes i (with_tree e) (omega arith))
 next_bare command.Run steps passes i e less = ap (λ (x : EngineState). x.stage) (drifts steps passes i (with_frame (with_tree e)) less)
-next_bare command.Trial steps passes i e less = absurd (omega arith)
+next_bare command.Trial steps passes i e less = ap (λ (x : EngineState). x.stage) (drifts steps passes i (with_frame (with_tree e)) less)
 
 -- the bodies after no pass
 after_none : (bodies : List Body) → after_passes [] bodies ≡ bodies
@@ -160,23 +171,22 @@ pub record IsOnTheWay (makes : Builder → Type 0) (o : Choices) (scene : SceneP
   pub bodies : o.command ≡ command.Passes → i ≤ length scene.passes → e.bodies ≡ after_passes (take i scene.passes) scene.bodies
 
 -- the parts that are left at the beginning are all
-all_left : (o : Choices) (scene : SceneParts) → (o.command ≡ command.Trial → ⊥)
+all_left : (o : Choices) (scene : SceneParts)
     → parts_left o scene.passes (count_of o scene.passes - 0) 0 (opened o.plan scene.bodies) ≡ command_parts o scene
-all_left o scene served =
+all_left o scene =
     let e = opened o.plan scene.bodies in
     let whole : count_of o scene.passes - 0 ≡ count_of o scene.passes = omega arith in
-    ap (λ k. parts_left o scene.passes k 0 e) whole ∙ ap (map (part_of_frame o.command)) (frames_are o.command o scene served)
+    ap (λ k. parts_left o scene.passes k 0 e) whole ∙ ap (map (part_of_frame o)) (frames_are o.command o scene)
 
 -- the first frame
-pub way_begin : (makes : Builder → Type 0) (o : Choices) (scene : SceneParts) (b : Output) (e : EngineState) → (o.command ≡ command.Trial → ⊥)
-    → makes o.plan.builder → e ≡ opened o.plan scene.bodies
-    → IsOnTheWay makes o scene b 0 b e
-way_begin makes o scene b e served builder is =
+pub way_begin : (makes : Builder → Type 0) (o : Choices) (scene : SceneParts) (b : Output) (e : EngineState) → makes o.plan.builder
+    → e ≡ opened o.plan scene.bodies → IsOnTheWay makes o scene b 0 b e
+way_begin makes o scene b e builder is =
     let first = opened o.plan scene.bodies in
     let P : EngineState → Type 0 = λ x. IsOnTheWay makes o scene b 0 b x in
     let Q : List Part → Type 0 = λ parts. GoesOn (command_parts o scene) parts b b in
     subst P (sym is) (record {
-      on = subst Q (sym (all_left o scene served)) (on_begin (command_parts o scene) b);
+      on = subst Q (sym (all_left o scene)) (on_begin (command_parts o scene) b);
       bare = λ less. refl;
       builder = builder;
       bodies = λ passes within. sym (after_none scene.bodies);
@@ -185,7 +195,7 @@ way_begin makes o scene b e served builder is =
 -- the parts that are left where a frame is
 way_left : (makes : Builder → Type 0) (o : Choices) (scene : SceneParts) (b : Output) (i : ℕ) (now : Output) (e : EngineState)
     → i < count_of o scene.passes → IsOnTheWay makes o scene b i now e
-    → GoesOn (command_parts o scene) (part_of_frame o.command e ∷ parts_left o scene.passes (count_of o scene.passes - (i + 1)) (i + 1)
+    → GoesOn (command_parts o scene) (part_of_frame o e ∷ parts_left o scene.passes (count_of o scene.passes - (i + 1)) (i + 1)
     (next o scene.passes i e)) b now
 way_left makes o scene b i now e less way =
     let P : List Part → Type 0 = λ parts. GoesOn (command_parts o scene) parts b now in
@@ -205,14 +215,14 @@ next_bodies command.Trial steps passes i e first is within bodies = cc
 
 -- a frame is whole, and the bodies moved on
 pub way_next : (makes : Builder → Type 0) (o : Choices) (scene : SceneParts) (b : Output) (i : ℕ) (now then : Output) (e e' : EngineState) (s : Status)
-    → i < count_of o scene.passes → IsOnTheWay makes o scene b i now e → RunsPart (part_of_frame o.command e) now then s → s ≡ status.Done
+    → i < count_of o scene.passes → IsOnTheWay makes o scene b i now e → RunsPart (part_of_frame o e) now then s → s ≡ status.Done
     → e' ≡ moved_on o.command o.steps scene.passes i (with_parts o.command (with_tree e))
     → IsOnTheWay makes o scene b (i + 1) then e'
 way_next makes o scene b i now then e e' s less way part done moved =
     let P : EngineState → Type 0 = λ x. IsOnTheWay makes o scene b (i + 1) then x in
     subst P (sym moved) (record {
       on = on_more (command_parts o scene) (parts_left o scene.passes (count_of o scene.passes - (i + 1)) (i + 1) (next o scene.passes i e))
-          (part_of_frame o.command e) b now then s (way_left makes o scene b i now e less way) part done;
+          (part_of_frame o e) b now then s (way_left makes o scene b i now e less way) part done;
       bare = next_bare o.command o.steps scene.passes i e;
       builder = next_builder makes o.command o.steps scene.passes i e way.builder;
       bodies = λ passes within. next_bodies o.command o.steps scene.passes i e scene.bodies passes (omega arith) (way.bodies passes (omega arith));
@@ -220,11 +230,11 @@ way_next makes o scene b i now then e e' s less way part done moved =
 
 -- the run stopped in a frame
 pub way_stop : (makes : Builder → Type 0) (o : Choices) (scene : SceneParts) (b : Output) (i : ℕ) (now a : Output) (e : EngineState) (s : Status)
-    → i < count_of o scene.passes → IsOnTheWay makes o scene b i now e → RunsPart (part_of_frame o.command e) now a s → (s ≡ status.Done → ⊥)
+    → i < count_of o scene.passes → IsOnTheWay makes o scene b i now e → RunsPart (part_of_frame o e) now a s → (s ≡ status.Done → ⊥)
     → Runs (command_parts o scene) b a s
 way_stop makes o scene b i now a e s less way part other =
     on_stop (command_parts o scene) (parts_left o scene.passes (count_of o scene.passes - (i + 1)) (i + 1) (next o scene.passes i e))
-    (part_of_frame o.command e) b now a s (way_left makes o scene b i now e less way) part other
+    (part_of_frame o e) b now a s (way_left makes o scene b i now e less way) part other
 
 -- all frames are whole
 pub way_end : (makes : Builder → Type 0) (o : Choices) (scene : SceneParts) (b : Output) (i : ℕ) (now : Output) (e : EngineState)
@@ -247,19 +257,19 @@ way_pass makes o scene b i now e accepted way passes within =
 -- ---- one turn
 
 -- a tree's engine shows the same lines
-lines_same : (c : Command) (e : EngineState) → lines_of_frame c (with_tree e) ≡ lines_of_frame c e
-lines_same command.Tree e = refl
-lines_same command.Passes e = refl
-lines_same command.Run e = refl
-lines_same command.Trial e = refl
+lines_same : (c : Command) (o : Choices) (e : EngineState) → lines_of_frame c o (with_tree e) ≡ lines_of_frame c o e
+lines_same command.Tree o e = refl
+lines_same command.Passes o e = refl
+lines_same command.Run o e = refl
+lines_same command.Trial o e = refl
 
 -- the part of a frame whose tree was made and shown
-pub part_made : (c : Command) (e e1 : EngineState) (w v : Option (List ℕ)) (k l : ℕ) (y z : YardCounts) (s : Status) → e1 ≡ with_tree e → IsCounted y
-    → Rises (builder_publishes e) y z → Shows (lines_text (lines_of_frame c e1)) w k v l s
-    → RunsPart (part_of_frame c e) (output w k y) (output v l z) s
-part_made c e e1 w v k l y z s made counted rose h =
+pub part_made : (o : Choices) (e e1 : EngineState) (w v : Option (List ℕ)) (k l : ℕ) (y z : YardCounts) (s : Status) → e1 ≡ with_tree e → IsCounted y
+    → Rises (builder_publishes e) y z → Shows (lines_text (lines_of_frame o.command o e1)) w k v l s
+    → RunsPart (part_of_frame o e) (output w k y) (output v l z) s
+part_made o e e1 w v k l y z s made counted rose h =
     let P : List TextLine → Type 0 = λ lines. Shows (lines_text lines) w k v l s in
-    part_shown (part_of_frame c e) w v k l y z s counted rose (subst P (ap (lines_of_frame c) made ∙ lines_same c e) h)
+    part_shown (part_of_frame o e) w v k l y z s counted rose (subst P (ap (lines_of_frame o.command o) made ∙ lines_same o.command o e) h)
 
 -- the engine of the next frame, after that of a tree that was made
 pub moved_as : (c : Command) (steps : ℕ) (passes : List (List Move)) (i : ℕ) (e e1 e' : EngineState) → e1 ≡ with_tree e
@@ -267,8 +277,19 @@ pub moved_as : (c : Command) (steps : ℕ) (passes : List (List Move)) (i : ℕ)
     → e' ≡ moved_on c steps passes i (with_parts c (with_tree e))
 moved_as c steps passes i e e1 e' made moved = moved ∙ ap (λ (x : EngineState). moved_on c steps passes i (with_parts c x)) made
 
--- a command that is served makes no scene
-pub no_trial : (c : Command) → serves_command c ≡ true → c ≡ command.Trial → ⊥
-no_trial c served is =
-    let other : serves_command c ≡ false = ap serves_command is in
-    cc
+-- ---- what is shown
+
+-- how the writing of the lines of a frame ended, by the command
+pub shown_as : (c d : Command) (o : Choices) (e : EngineState) (w v : Option (List ℕ)) (k l : ℕ) (s : Status) → c ≡ d
+    → Shows (lines_text (lines_of_frame d o e)) w k v l s → Shows (lines_text (lines_of_frame c o e)) w k v l s
+shown_as c d o e w v k l s is h =
+    let P : Command → Type 0 = λ x. Shows (lines_text (lines_of_frame x o e)) w k v l s in
+    subst P (sym is) h
+
+-- the lines of a trial are those of its last frame
+pub last_shown : (o : Choices) (e : EngineState) (w v : Option (List ℕ)) (k l : ℕ) (s : Status) → e.step + 1 ≡ o.steps
+    → Shows (lines_text (trial_lines o.made o.steps e)) w k v l s → Shows (lines_text (lines_of_frame command.Trial o e)) w k v l s
+last_shown o e w v k l s last h =
+    let test : is_last o.steps e ≡ true = grind (arith, nat_tests) in
+    let P : List TextLine → Type 0 = λ lines. Shows (lines_text lines) w k v l s in
+    subst P (sym (chosen (is_last o.steps e) (trial_lines o.made o.steps e) [] test)) h

@@ -9,9 +9,12 @@ use Rattle.bh_model.specs.declared.pull.Pull.{Pull}
 use Rattle.frame_core.specs.Engines.{EngineState, builder_pieces, frame_of}
 use Rattle.frame_core.specs.Frames.{pull_on, tree_of_bodies}
 use Rattle.mass_moments.specs.Kept.{cost_at}
+use Rattle.nbody_options.specs.declared.options.Made.{Made}
 use Rattle.nbody_cli.specs.Lines.{TextLine, TreeLine, Words, Word, Number, Numbers, Signed}
 use Rattle.probe.specs.Figures.{FrameFigures}
 use Rattle.scene_file.specs.Bodies.{sites_of}
+use Rattle.scene_file.specs.declared.made.Shape.{Shape}
+use Rattle.scene_file.specs.declared.made.Shape.TheVariants as shape
 
 -- the lines of a builder: that of the number of pieces, where it tells of any
 abbrev pub pieces_lines : Option ℕ → List TextLine
@@ -25,13 +28,13 @@ builder_lines e = pieces_lines (builder_pieces e)
 abbrev pub tree_lines : EngineState → List TextLine
 tree_lines e = TreeLine (tree_of_bodies e.bodies) ∷ builder_lines e
 
+-- the line of how large a tree is: how many cells it has, and its depth
+abbrev pub cells_line : ℕ → ℕ → TextLine
+cells_line cells deep = Words (codes "cells") (Number cells ∷ Word (codes "depth") ∷ Number deep ∷ [])
+
 -- the first lines of a frame: its number, its tree, and how large that is
 abbrev pub size_lines : ℕ → Tree → List TextLine
-size_lines step tree =
-    Words (codes "frame") (Number step ∷ [])
-    ∷ TreeLine tree
-    ∷ Words (codes "cells") (Number (cell_count tree) ∷ Word (codes "depth") ∷ Number (depth tree) ∷ [])
-    ∷ []
+size_lines step tree = Words (codes "frame") (Number step ∷ []) ∷ TreeLine tree ∷ cells_line (cell_count tree) (depth tree) ∷ []
 
 -- the lines of a frame of passes: its first lines, and those of the builder
 abbrev pub pass_lines : EngineState → List TextLine
@@ -73,3 +76,33 @@ body_lines e = map (body_line_of e) (numbers (length e.bodies))
 -- the lines of an engine's frame: its head, a line for each worker, and a line for each body
 abbrev pub frame_lines : EngineState → List TextLine
 frame_lines e = head_lines (tree_of_bodies e.bodies) (builder_pieces e) (frame_of e) ++ (zone_lines e ++ body_lines e)
+
+-- ---- the lines of a trial
+
+-- the name of a shape
+abbrev pub shape_name : Shape → List ℕ
+shape_name shape.Uniform = codes "uniform"
+shape_name shape.Corner = codes "corner"
+
+-- the line of what was made and run: how many bodies, the seed of their numbers, their shape, and how many steps
+abbrev pub trial_line : Made → ℕ → TextLine
+trial_line made steps =
+    Words (codes "trial")
+    (Number made.count ∷ Word (codes "seed") ∷ Number made.seed ∷ Word (codes "shape") ∷ Word (shape_name made.shape) ∷ Word (codes "steps") ∷ Number steps
+    ∷ [])
+
+-- the line of the cost of all bodies, the greatest of a zone, and the terms of all pulls
+abbrev pub met_line : FrameFigures → TextLine
+met_line f = Words (codes "cost") (Number f.cost ∷ Word (codes "greatest") ∷ Number f.greatest ∷ Word (codes "met") ∷ Number f.met ∷ [])
+
+-- the line of the sums of mass times acceleration
+abbrev pub push_line : FrameFigures → TextLine
+push_line f = Words (codes "push") (Signed f.push_x ∷ Signed f.push_y ∷ Signed f.push_z ∷ [])
+
+-- the lines of a trial: what was made and run, and then the depth and the figures of the last frame
+abbrev pub summary_lines : Made → ℕ → ℕ → FrameFigures → List TextLine
+summary_lines made steps deep f = trial_line made steps ∷ cells_line f.cells deep ∷ met_line f ∷ push_line f ∷ []
+
+-- those of a trial whose last frame is an engine's
+abbrev pub trial_lines : Made → ℕ → EngineState → List TextLine
+trial_lines made steps e = summary_lines made steps (depth (tree_of_bodies e.bodies)) (frame_of e)

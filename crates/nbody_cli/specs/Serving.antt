@@ -6,9 +6,10 @@ use Rattle.bh_model.specs.declared.plan.Builder.{Builder}
 use Rattle.bh_model.specs.declared.plan.Builder.TheVariants as builder
 use Rattle.bh_outside.specs.Outside.{Rose, Took, TookPrefix}
 use Rattle.frame_core.specs.Building.{Publications, Rises}
-use Rattle.frame_core.specs.Engines.{EngineState, opened, with_frame}
+use Rattle.frame_core.specs.Engines.{EngineStage, EngineState, HasTree, WithFrame, opened, with_frame}
 use Rattle.frame_core.specs.Next.{drifted, shifted_by}
 use Rattle.shared_tree.specs.Seen.{YardCounts}
+use Rattle.scene_file.specs.Made.{made_bodies}
 use Rattle.scene_file.specs.Moves.{IsScene, SceneParts, pass_at}
 use Rattle.scene_file.specs.Scene.{scene_of}
 use Rattle.scene_file.specs.declared.fault.SceneFault.{SceneFault}
@@ -17,6 +18,7 @@ use Rattle.scene_file.specs.declared.moves.Move.{Move}
 use Rattle.nbody_options.specs.Choices.{Choices}
 use Rattle.nbody_options.specs.declared.options.Command.{Command}
 use Rattle.nbody_options.specs.declared.options.Command.TheVariants as command
+use Rattle.nbody_options.specs.declared.options.Made.{Made}
 use Rattle.nbody_cli.specs.Text.{Part, command_parts, published_by, refused_line, text_of, usage_line, without_tree}
 use Rattle.nbody_cli.specs.declared.status.Status.{Status}
 use Rattle.nbody_cli.specs.declared.status.Status.TheVariants as status
@@ -49,21 +51,24 @@ status_of_fault _ = status.Scene
 abbrev pub wanted_of_fault : SceneFault → Wanted
 wanted_of_fault f = record { status = status_of_fault f; parts = without_tree (refused_line f) ∷ []; reads = true }
 
+-- what is wanted of options over a scene that has no fault: the text of its frames
+abbrev pub wanted_of_frames : Choices → SceneParts → Wanted
+wanted_of_frames o scene = record { status = status.Done; parts = command_parts o scene; reads = reads_source o.command }
+
 -- what is wanted of a command that reads the source, by the source's scene: its frames, or the line of the first fault
 abbrev pub wanted_of_scene : Choices → Result SceneParts SceneFault → Wanted
-wanted_of_scene o (Ok scene) = record { status = status.Done; parts = command_parts o scene; reads = true }
+wanted_of_scene o (Ok scene) = wanted_of_frames o scene
 wanted_of_scene o (Err f) = wanted_of_fault f
 
--- the scene of a command that reads none: no command makes one yet
-abbrev pub no_scene : SceneParts
-no_scene = record { bodies = []; passes = [] }
+-- the scene that a command makes which reads none: so many bodies by a seed and a shape, and no pass
+abbrev pub scene_made_of : Made → SceneParts
+scene_made_of made = record { bodies = made_bodies made.count made.seed made.shape; passes = [] }
 
 -- what is wanted, by the options and the bytes of the source: without options it is the usage line
 abbrev pub wanted : Option Choices → List ℕ → Wanted
 wanted None bytes = record { status = status.Usage; parts = without_tree usage_line ∷ []; reads = false }
 wanted (Some o) bytes =
-    if reads_source o.command then wanted_of_scene o (scene_of bytes)
-    else record { status = status.Done; parts = command_parts o no_scene; reads = false }
+    if reads_source o.command then wanted_of_scene o (scene_of bytes) else wanted_of_frames o (scene_made_of o.made)
 
 -- ---- what is read and written
 
@@ -216,12 +221,12 @@ pub record ServesOptions (o : Choices) (before after : Ports) (yard_before yard_
 
 -- ---- inside a run of options
 
--- the engine and the passes of the scene that the source told, which was read to its end
+-- the engine and the passes of the scene whose frames are wanted: it is accepted, and the source was read to its end where the command reads it
 pub record IsOpened (o : Choices) (left_before left_after : Option (List ℕ)) (e : EngineState) (passes : List (List Move)) : Type 0 where
   pub bytes : List ℕ
   pub told : AreLeft left_before bytes
-  pub end : IsAtEnd left_after
-  pub scene : scene_of bytes ≡ Ok (record { bodies = e.bodies; passes = passes })
+  pub end : IsTrue (reads_source o.command) → IsAtEnd left_after
+  pub scene : wanted (Some o) bytes ≡ wanted_of_frames o (record { bodies = e.bodies; passes = passes })
   pub accepted : IsScene (record { bodies = e.bodies; passes = passes })
   pub engine : e ≡ opened o.plan e.bodies
 
@@ -255,19 +260,26 @@ Shows text w k v l status.Write = Rose k l × TookPrefix w v text
 Shows text w k v l status.Memory = TookPrefix w v text
 Shows text w k v l _ = ⊥
 
--- the engine once a command has written what it tells of the tree: the command `run` has made the frame
+-- the engine once a command has written what it tells of the tree: a command of steps has made the frame
 abbrev pub with_parts : Command → EngineState → EngineState
-with_parts command.Run e = with_frame e
-with_parts _ e = e
+with_parts command.Tree e = e
+with_parts command.Passes e = e
+with_parts _ e = with_frame e
+
+-- what an engine has once a command has written what it tells of it
+abbrev pub HasParts : Command → EngineStage → Type 0
+HasParts command.Tree stage = ⊤
+HasParts command.Passes stage = HasTree stage
+HasParts _ stage = stage ≡ WithFrame
 
 -- the engine once its bodies moved on from the frame of a number, which was shown; after the last frame they stay
 abbrev pub moved_on : Command → ℕ → List (List Move) → ℕ → EngineState → EngineState
-moved_on command.Run steps passes number e = if nat_lt (number + 1) steps then drifted e else e
+moved_on command.Tree steps passes number e = e
 moved_on command.Passes steps passes number e = if nat_lt number (length passes) then shifted_by (pass_at passes number) e else e
-moved_on _ steps passes number e = e
+moved_on _ steps passes number e = if nat_lt (number + 1) steps then drifted e else e
 
--- how many frames a command writes
+-- how many frames a command makes
 abbrev pub frame_count : Command → ℕ → List (List Move) → ℕ
-frame_count command.Run steps passes = steps
+frame_count command.Tree steps passes = 1
 frame_count command.Passes steps passes = length passes + 1
-frame_count _ steps passes = 1
+frame_count _ steps passes = steps

@@ -1,10 +1,10 @@
 -- What the program writes.
-use Rattle.std.specs.Prelude.{ℕ, List, [], ◌∷◌, codes, map}
+use Rattle.std.specs.Prelude.{◌==◌, ◌+◌, ℕ, Bool, List, [], ◌∷◌, codes, map, if◌then◌else◌}
 use Rattle.std.specs.List.{flat_map}
 use Rattle.frame_core.specs.Building.{Publications, one_for_each}
 use Rattle.frame_core.specs.Engines.{EngineState, builder_publishes, opened}
 use Rattle.frame_core.specs.Next.{pass_frames, run_frames, sum_publications}
-use Rattle.nbody_cli.specs.Frames.{frame_lines, pass_lines, tree_lines}
+use Rattle.nbody_cli.specs.Frames.{frame_lines, pass_lines, tree_lines, trial_lines}
 use Rattle.nbody_cli.specs.Lines.{TextLine, Words, LineItem, Word, Number, lines_text}
 use Rattle.nbody_options.specs.Choices.{Choices}
 use Rattle.nbody_options.specs.declared.options.Command.{Command}
@@ -39,19 +39,22 @@ usage_line = codes "usage: nbody tree|passes|run|trial [--builder orig|local|upd
 
 -- ---- the text of a command
 
--- the lines that a command writes of one frame; the commands that are not served write none
-abbrev pub lines_of_frame : Command → EngineState → List TextLine
-lines_of_frame command.Tree e = tree_lines e
-lines_of_frame command.Passes e = pass_lines e
-lines_of_frame command.Run e = frame_lines e
-lines_of_frame command.Trial e = []
+-- a frame is the last of so many steps, since the first has the number 0
+abbrev pub is_last : ℕ → EngineState → Bool
+is_last steps e = e.step + 1 == steps
 
--- the frames that a command writes of a scene, each as it stands before its tree: that of the bodies, that and those after each pass, or one for each step
+-- the lines that a command writes of one frame: a trial tells its last frame alone
+abbrev pub lines_of_frame : Command → Choices → EngineState → List TextLine
+lines_of_frame command.Tree o e = tree_lines e
+lines_of_frame command.Passes o e = pass_lines e
+lines_of_frame command.Run o e = frame_lines e
+lines_of_frame command.Trial o e = if is_last o.steps e then trial_lines o.made o.steps e else []
+
+-- the frames that a command makes of a scene, each as it stands before its tree: that of the bodies, that and those after each pass, or one for each step
 abbrev pub frames_of_command : Command → Choices → SceneParts → List EngineState
 frames_of_command command.Tree o scene = opened o.plan scene.bodies ∷ []
 frames_of_command command.Passes o scene = pass_frames scene.passes (opened o.plan scene.bodies)
-frames_of_command command.Run o scene = run_frames o.steps (opened o.plan scene.bodies)
-frames_of_command command.Trial o scene = []
+frames_of_command _ o scene = run_frames o.steps (opened o.plan scene.bodies)
 
 -- a part of a text, and what the tree that is made for it publishes
 pub record Part : Type 0 where
@@ -62,13 +65,13 @@ pub record Part : Type 0 where
 abbrev pub without_tree : List ℕ → Part
 without_tree text = record { text = text; publishes = one_for_each 0 }
 
--- a frame's part of the text of a command
-abbrev pub part_of_frame : Command → EngineState → Part
-part_of_frame command e = record { text = lines_text (lines_of_frame command e); publishes = builder_publishes e }
+-- a frame's part of the text of the options
+abbrev pub part_of_frame : Choices → EngineState → Part
+part_of_frame o e = record { text = lines_text (lines_of_frame o.command o e); publishes = builder_publishes e }
 
 -- the parts of the text of the options over a scene, frame after frame
 abbrev pub command_parts : Choices → SceneParts → List Part
-command_parts o scene = map (part_of_frame o.command) (frames_of_command o.command o scene)
+command_parts o scene = map (part_of_frame o) (frames_of_command o.command o scene)
 
 -- the text of parts, one after another
 abbrev pub text_of : List Part → List ℕ

@@ -5,17 +5,38 @@ ghost use Rattle.bh_model.specs.Trees.{cell_count, depth};
 ghost use Rattle.bh_outside.specs.Outside.{HasCause, Writes};
 ghost use Rattle.bh_outside.specs.Text.{Puts};
 ghost use Rattle.frame_core.specs.Engines.{WithFrame, WithTree, frame_of};
-ghost use Rattle.nbody_cli.specs.Frames.{body_line, body_lines, cost_line, frame_lines, head_lines, pass_lines, pieces_lines, size_lines, tree_lines, zone_line, zone_lines};
-ghost use Rattle.nbody_cli.specs.Lines.{line_text, lines_text};
+ghost use Rattle.nbody_cli.specs.Frames.{body_line, body_lines, cells_line, cost_line, frame_lines, head_lines, met_line, pass_lines, pieces_lines, push_line, shape_name, size_lines, summary_lines, tree_lines, trial_line, trial_lines, zone_line, zone_lines};
+ghost use Rattle.nbody_cli.specs.Lines.{Word, line_text, lines_text};
+ghost use Rattle.nbody_cli.specs.Seen.{item_of};
 ghost use Rattle.octree.specs.Stored.{tree_of};
 
 use crate::lines::{Item, Line, put_line, put_lines};
 use bh_model::Pull;
 use bh_outside::{Failed, Sink, TextBuffer};
 use frame_core::Engine;
+use nbody_options::Options;
 use octant_code::Point;
 use octree::{Extent, Octree};
 use probe::Frame;
+use scene_file::Shape;
+
+/// Puts the line of how large a tree is.
+fn put_cells<K: Sink>(
+    cells: u32,
+    depth: u32,
+    buffer: &mut TextBuffer,
+    sink: &mut K,
+) -> Result<(), Failed>
+    ensures text { Puts (K.written sink.old) (K.written sink.new) buffer.old buffer.new (line_text (cells_line cells depth)) result }
+    ensures cause { HasCause (K.faults sink.old) (K.faults sink.new) result }
+{
+    let items = [
+        Item::Number(cells as u64),
+        Item::Word(b"depth"),
+        Item::Number(depth as u64),
+    ];
+    put_line(&Line::Words(b"cells", &items), buffer, sink)
+}
 
 /// Puts the first lines of the frame of a number: the number, the tree, and how large that is.
 fn put_size<K: Sink>(
@@ -33,12 +54,7 @@ fn put_size<K: Sink>(
     let step = [Item::Number(step as u64)];
     put_line(&Line::Words(b"frame", &step), buffer, sink)?;
     put_line(&Line::Tree(tree), buffer, sink)?;
-    let size = [
-        Item::Number(size.cells as u64),
-        Item::Word(b"depth"),
-        Item::Number(size.depth as u64),
-    ];
-    put_line(&Line::Words(b"cells", &size), buffer, sink)
+    put_cells(size.cells, size.depth, buffer, sink)
 }
 
 /// Puts the line of the number of pieces, where the builder tells of any.
@@ -264,5 +280,94 @@ pub fn write_pass<K: Sink>(sink: &mut K, engine: &Engine) -> Result<(), Failed>
 {
     let mut buffer = TextBuffer::new();
     put_pass(engine, &mut buffer, sink)?;
+    buffer.finish(sink)
+}
+
+/// The name of a shape.
+fn shape_word<'a>(shape: Shape) -> Item<'a>
+    ensures { item_of result ≡ Word (shape_name shape) }
+{
+    match shape {
+        Shape::Uniform => Item::Word(b"uniform"),
+        Shape::Corner => Item::Word(b"corner"),
+    }
+}
+
+/// Puts the line of what a trial made and ran.
+fn put_made<K: Sink>(options: &Options, buffer: &mut TextBuffer, sink: &mut K) -> Result<(), Failed>
+    ensures text { Puts (K.written sink.old) (K.written sink.new) buffer.old buffer.new (line_text (trial_line options.now.made options.now.steps)) result }
+    ensures cause { HasCause (K.faults sink.old) (K.faults sink.new) result }
+{
+    let items = [
+        Item::Number(options.made.count as u64),
+        Item::Word(b"seed"),
+        Item::Number(options.made.seed),
+        Item::Word(b"shape"),
+        shape_word(options.made.shape),
+        Item::Word(b"steps"),
+        Item::Number(options.steps as u64),
+    ];
+    put_line(&Line::Words(b"trial", &items), buffer, sink)
+}
+
+/// Puts the line of the cost of all bodies, the greatest of a zone, and the terms of all pulls.
+fn put_met<K: Sink>(frame: &Frame, buffer: &mut TextBuffer, sink: &mut K) -> Result<(), Failed>
+    ensures text { Puts (K.written sink.old) (K.written sink.new) buffer.old buffer.new (line_text (met_line frame.now)) result }
+    ensures cause { HasCause (K.faults sink.old) (K.faults sink.new) result }
+{
+    let items = [
+        Item::Number(frame.cost),
+        Item::Word(b"greatest"),
+        Item::Number(frame.greatest),
+        Item::Word(b"met"),
+        Item::Number(frame.met),
+    ];
+    put_line(&Line::Words(b"cost", &items), buffer, sink)
+}
+
+/// Puts the line of the sums of mass times acceleration.
+fn put_push<K: Sink>(frame: &Frame, buffer: &mut TextBuffer, sink: &mut K) -> Result<(), Failed>
+    ensures text { Puts (K.written sink.old) (K.written sink.new) buffer.old buffer.new (line_text (push_line frame.now)) result }
+    ensures cause { HasCause (K.faults sink.old) (K.faults sink.new) result }
+{
+    let items = [
+        Item::Signed(frame.push_x),
+        Item::Signed(frame.push_y),
+        Item::Signed(frame.push_z),
+    ];
+    put_line(&Line::Words(b"push", &items), buffer, sink)
+}
+
+/// Puts the lines of a trial, by the depth and the figures of its last frame.
+fn put_summary<K: Sink>(
+    options: &Options,
+    depth: u32,
+    frame: &Frame,
+    buffer: &mut TextBuffer,
+    sink: &mut K,
+) -> Result<(), Failed>
+    ensures text { Puts (K.written sink.old) (K.written sink.new) buffer.old buffer.new (lines_text (summary_lines options.now.made options.now.steps depth frame.now)) result }
+    ensures cause { HasCause (K.faults sink.old) (K.faults sink.new) result }
+{
+    put_made(options, buffer, sink)?;
+    put_cells(frame.cells, depth, buffer, sink)?;
+    put_met(frame, buffer, sink)?;
+    put_push(frame, buffer, sink)
+}
+
+/// Writes the lines of a trial whose last frame is an engine's.
+pub fn write_trial<K: Sink>(
+    sink: &mut K,
+    options: &Options,
+    engine: &Engine,
+    frame: &Frame,
+) -> Result<(), Failed>
+    requires stage { engine.now.stage ≡ WithFrame }
+    requires figures { frame.now ≡ frame_of engine.now }
+    ensures text { Writes (K.written sink.old) (K.written sink.new) (lines_text (trial_lines options.now.made options.now.steps engine.now)) result }
+    ensures cause { HasCause (K.faults sink.old) (K.faults sink.new) result }
+{
+    let mut buffer = TextBuffer::new();
+    put_summary(options, engine.depth(), frame, &mut buffer, sink)?;
     buffer.finish(sink)
 }

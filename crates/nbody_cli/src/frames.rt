@@ -1,19 +1,18 @@
 //! The frames of a run, one after another.
 
-ghost use Rattle.std.specs.Prelude.{◌≡◌, ◌<◌, ◌≤◌, ◌^◌, OnOk, length, true};
+ghost use Rattle.std.specs.Prelude.{◌≡◌, ◌<◌, ◌≤◌, ◌^◌, OnOk, length};
 ghost use Rattle.bh_model.specs.declared.plan.Builder.TheVariants.{Orig};
 ghost use Rattle.frame_core.specs.Building.{IsFree};
-ghost use Rattle.frame_core.specs.Engines.{HasTree, WithFrame, WithTree, opened, with_frame};
+ghost use Rattle.frame_core.specs.Engines.{WithFrame, WithTree, frame_of, opened, with_frame};
 ghost use Rattle.nbody_cli.specs.Frames.{frame_lines, pass_lines, tree_lines};
 ghost use Rattle.nbody_cli.specs.Lines.{lines_text};
-ghost use Rattle.nbody_cli.specs.Serving.{Runs, Shows, frame_count, moved_on, output, with_parts};
+ghost use Rattle.nbody_cli.specs.Serving.{HasParts, Runs, Shows, frame_count, moved_on, output, with_parts};
 ghost use Rattle.nbody_cli.specs.Text.{command_parts, lines_of_frame};
 ghost use Rattle.nbody_cli.specs.declared.status.Status.TheVariants.{Done};
-ghost use Rattle.nbody_options.specs.Options.{serves_command};
-ghost use Rattle.nbody_options.specs.declared.options.Command.TheVariants.{Passes as ByPasses, Run as BySteps};
+ghost use Rattle.nbody_options.specs.declared.options.Command.TheVariants.{Passes as ByPasses, Trial as Summed};
 ghost use Rattle.scene_file.specs.Moves.{IsPass, IsScene, pass_at};
 
-use crate::frame_text::{write_frame, write_pass, write_tree};
+use crate::frame_text::{write_frame, write_pass, write_tree, write_trial};
 use crate::status::Status;
 use bh_outside::Sink;
 use build_gate::Gate;
@@ -22,6 +21,7 @@ use free_tree::FreeYard;
 use locked_tree::LockedYard;
 use nbody_options::{Command, Options};
 use octant_code::OutOfMemory;
+use probe::Frame;
 use scene_file::{MOST_PASSES, Passes};
 use std::marker::Sync;
 use std::sync::Wait;
@@ -70,24 +70,58 @@ fn show_step<R: Threads + Sync, K: Sink, G: Gate>(
     }
 }
 
-/// Writes what a command tells of an engine whose bodies have their tree.
-fn show<R: Threads + Sync, K: Sink, G: Gate>(
+/// Writes the lines of a trial where an engine's frame is its last.
+fn show_last<K: Sink>(options: &Options, engine: &Engine, frame: &Frame, sink: &mut K) -> Status
+    requires stage { engine.now.stage ≡ WithFrame }
+    requires figures { frame.now ≡ frame_of engine.now }
+    ensures { Shows (lines_text (lines_of_frame Summed options.now engine.now)) (K.written sink.old) (K.faults sink.old) (K.written sink.new) (K.faults sink.new) result }
+{
+    if frame.step == options.steps - 1 {
+        match write_trial(sink, options, engine, frame) {
+            Ok(()) => Status::Done,
+            Err(_) => Status::Write,
+        }
+    } else {
+        Status::Done
+    }
+}
+
+/// Makes the frame of an engine whose bodies have their tree, and writes the lines of a trial where
+/// that frame is its last.
+fn show_trial<R: Threads + Sync, K: Sink, G: Gate>(
     rt: &R,
-    command: Command,
+    options: &Options,
     engine: &mut Engine,
     gate: &G,
     sink: &mut K,
 ) -> Status
-    requires tree { engine.old.stage ≡ WithTree }
-    requires served { serves_command command ≡ true }
-    ensures shows { Shows (lines_text (lines_of_frame command engine.old)) (K.written sink.old) (K.faults sink.old) (K.written sink.new) (K.faults sink.new) result }
-    ensures made { result ≡ Done → engine.new ≡ with_parts command engine.old }
+    requires { engine.old.stage ≡ WithTree }
+    ensures shows { Shows (lines_text (lines_of_frame Summed options.now engine.old)) (K.written sink.old) (K.faults sink.old) (K.written sink.new) (K.faults sink.new) result }
+    ensures made { result ≡ Done → engine.new ≡ with_frame engine.old }
 {
-    match command {
+    match engine.frame(rt, gate) {
+        Ok(frame) => show_last(options, engine, &frame, sink),
+        Err(_) => Status::Memory,
+    }
+}
+
+/// Writes what a command tells of an engine whose bodies have their tree.
+fn show<R: Threads + Sync, K: Sink, G: Gate>(
+    rt: &R,
+    options: &Options,
+    engine: &mut Engine,
+    gate: &G,
+    sink: &mut K,
+) -> Status
+    requires { engine.old.stage ≡ WithTree }
+    ensures shows { Shows (lines_text (lines_of_frame options.now.command options.now engine.old)) (K.written sink.old) (K.faults sink.old) (K.written sink.new) (K.faults sink.new) result }
+    ensures made { result ≡ Done → engine.new ≡ with_parts options.now.command engine.old }
+{
+    match options.command {
         Command::Tree => show_tree(engine, sink),
         Command::Passes => show_pass(engine, sink),
         Command::Run => show_step(rt, engine, gate, sink),
-        Command::Trial => unreachable!(),
+        Command::Trial => show_trial(rt, options, engine, gate, sink),
     }
 }
 
@@ -99,19 +133,12 @@ fn move_on(
     engine: &mut Engine,
 ) -> Result<(), OutOfMemory>
     requires few { number < 2 ^ 32 }
-    requires frame { options.now.command ≡ BySteps → engine.old.stage ≡ WithFrame }
-    requires tree { options.now.command ≡ ByPasses → HasTree engine.old.stage }
+    requires tree { HasParts options.now.command engine.old.stage }
     requires moves { options.now.command ≡ ByPasses → number < length passes.now → IsPass engine.old.bodies (pass_at passes.now number) }
     ensures { OnOk result (engine.new ≡ moved_on options.now.command options.now.steps passes.now number engine.old) }
 {
     match options.command {
-        Command::Run => {
-            if number + 1 < options.steps as usize {
-                engine.drift()
-            } else {
-                Ok(())
-            }
-        }
+        Command::Tree => Ok(()),
         Command::Passes => {
             if number < passes.len() {
                 engine.shift(passes.pass(number))
@@ -119,7 +146,13 @@ fn move_on(
                 Ok(())
             }
         }
-        Command::Tree | Command::Trial => Ok(()),
+        Command::Run | Command::Trial => {
+            if number + 1 < options.steps as usize {
+                engine.drift()
+            } else {
+                Ok(())
+            }
+        }
     }
 }
 
@@ -135,12 +168,11 @@ fn show_and_move_on<R: Threads + Sync, K: Sink, G: Gate>(
 ) -> Status
     requires few { number < 2 ^ 32 }
     requires tree { engine.old.stage ≡ WithTree }
-    requires served { serves_command options.now.command ≡ true }
     requires moves { options.now.command ≡ ByPasses → number < length passes.now → IsPass engine.old.bodies (pass_at passes.now number) }
-    ensures shows { Shows (lines_text (lines_of_frame options.now.command engine.old)) (K.written sink.old) (K.faults sink.old) (K.written sink.new) (K.faults sink.new) result }
+    ensures shows { Shows (lines_text (lines_of_frame options.now.command options.now engine.old)) (K.written sink.old) (K.faults sink.old) (K.written sink.new) (K.faults sink.new) result }
     ensures made { result ≡ Done → engine.new ≡ moved_on options.now.command options.now.steps passes.now number (with_parts options.now.command engine.old) }
 {
-    match show(rt, options.command, engine, gate, sink) {
+    match show(rt, options, engine, gate, sink) {
         Status::Done => match move_on(options, passes, number, engine) {
             Ok(()) => Status::Done,
             Err(_) => Status::Memory,
@@ -149,20 +181,20 @@ fn show_and_move_on<R: Threads + Sync, K: Sink, G: Gate>(
     }
 }
 
-/// How many frames the options write.
+/// How many frames the options make.
 fn frame_count(options: &Options, passes: &Passes) -> usize
     requires { length passes.now ≤ MOST_PASSES }
     ensures value { result ≡ frame_count options.now.command options.now.steps passes.now }
     ensures few { result < 2 ^ 32 }
 {
     match options.command {
-        Command::Run => options.steps as usize,
+        Command::Tree => 1,
         Command::Passes => passes.len() + 1,
-        Command::Tree | Command::Trial => 1,
+        Command::Run | Command::Trial => options.steps as usize,
     }
 }
 
-/// The frames that the options write, one after another, of an engine whose trees ORIG makes in the yard
+/// The frames that the options make, one after another, of an engine whose trees ORIG makes in the yard
 /// with locks. It may wait.
 pub fn run_locked<R: Threads + Wait + Sync, K: Sink, G: Gate>(
     rt: &R,
@@ -173,7 +205,6 @@ pub fn run_locked<R: Threads + Wait + Sync, K: Sink, G: Gate>(
     gate: &G,
     sink: &mut K,
 ) -> Status
-    requires served { serves_command options.now.command ≡ true }
     requires builder { options.now.plan.builder ≡ Orig }
     requires accepted { IsScene (record { bodies = engine.old.bodies; passes = passes.now }) }
     requires opened { engine.old ≡ opened options.now.plan engine.old.bodies }
@@ -196,7 +227,7 @@ pub fn run_locked<R: Threads + Wait + Sync, K: Sink, G: Gate>(
     Status::Done
 }
 
-/// The frames that the options write, one after another, of an engine whose trees are made by a builder
+/// The frames that the options make, one after another, of an engine whose trees are made by a builder
 /// that waits for nobody, as `run_locked` does for ORIG. A method of a trait can't start the threads
 /// of both, so each has its loop.
 pub fn run_free<R: Threads + Sync, K: Sink, G: Gate>(
@@ -208,7 +239,6 @@ pub fn run_free<R: Threads + Sync, K: Sink, G: Gate>(
     gate: &G,
     sink: &mut K,
 ) -> Status
-    requires served { serves_command options.now.command ≡ true }
     requires builder { IsFree options.now.plan.builder }
     requires accepted { IsScene (record { bodies = engine.old.bodies; passes = passes.now }) }
     requires opened { engine.old ≡ opened options.now.plan engine.old.bodies }

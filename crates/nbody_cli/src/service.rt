@@ -6,7 +6,7 @@ ghost use Rattle.frame_core.specs.Engines.{opened};
 ghost use Rattle.scene_file.specs.Moves.{IsScene};
 ghost use Rattle.scene_file.specs.Scene.{scene_of};
 ghost use Rattle.scene_file.specs.declared.fault.SceneFault.TheVariants.{OutOfMemory};
-ghost use Rattle.nbody_cli.specs.Serving.{EndsEarly, IsOpened, Serves, ServesOptions, needs_source, ports, world};
+ghost use Rattle.nbody_cli.specs.Serving.{EndsEarly, IsOpened, Serves, ServesOptions, needs_source, ports, reads_source, scene_made_of, world};
 ghost use Rattle.nbody_options.specs.Options.{is_served, options_of};
 ghost use Rattle.shared_tree.specs.Seen.{YardCounts};
 ghost use Rattle.bh_model.specs.declared.plan.Builder.TheVariants.{Orig};
@@ -20,8 +20,8 @@ use build_gate::Gate;
 use frame_core::Engine;
 use free_tree::FreeYard;
 use locked_tree::LockedYard;
-use nbody_options::{Options, OptionsFault, read_options};
-use scene_file::{MOST_BYTES, Passes, SceneFault, read_scene};
+use nbody_options::{Command, Options, OptionsFault, read_options};
+use scene_file::{MOST_BYTES, Passes, SceneFault, made_scene, read_scene};
 use std::alloc::Global;
 use std::sync::Wait;
 use std::thread::Threads;
@@ -66,13 +66,13 @@ fn open_scene<K: Sink>(
 /// The engine of the scene that the source tells, which is read to its end before anything is written,
 /// and the scene's passes. Where there is none, the status that ends the run is the error, and no yard
 /// has counted anything.
-fn open_engine<S: Source, K: Sink>(
+fn open_told<S: Source, K: Sink>(
     alloc: Global,
     options: &Options,
     source: &mut S,
     sink: &mut K,
 ) -> Result<(Engine, Passes), Status>
-    requires { is_served options.now ≡ true }
+    requires { reads_source options.now.command ≡ true }
     ensures opened { IfOk result (λ r. IsOpened options.now (S.left source.old) (S.left source.new) r.0 r.1) }
     ensures silent { OnOk result (sink.new ≡ sink.old) }
     ensures ended { IfErr result (λ s. (yard : YardCounts) → ServesOptions options.now (ports (S.left source.old) (S.faults source.old) (K.written sink.old) (K.faults sink.old))
@@ -84,6 +84,44 @@ fn open_engine<S: Source, K: Sink>(
         Ok(Input::TooLong) => Err(answer_fault(sink, SceneFault::TooLong)),
         Err(ReadAllFault::Failed) => Err(Status::Read),
         Err(ReadAllFault::OutOfMemory) => Err(Status::Memory),
+    }
+}
+
+/// The engine of the scene that the options make, and its passes.
+fn open_made(alloc: Global, options: &Options) -> Result<(Engine, Passes), octant_code::OutOfMemory>
+    ensures bodies { IfOk result (λ r. r.0.bodies ≡ (scene_made_of options.now.made).bodies) }
+    ensures accepted { IfOk result (λ r. IsScene (record { bodies = r.0.bodies; passes = r.1 })) }
+    ensures engine { IfOk result (λ r. r.0 ≡ opened options.now.plan r.0.bodies) }
+{
+    let made = options.made;
+    let scene = made_scene(alloc, made.count, made.seed, made.shape)?;
+    let passes = scene.passes;
+    let engine = Engine::open(alloc, options.plan, scene.bodies)?;
+    Ok((engine, passes))
+}
+
+/// The engine of the scene whose frames the options ask for, and its passes: a trial's scene is made,
+/// and its source stays as it is. Where there is none, the status that ends the run is the error, and
+/// no yard has counted anything.
+fn open_engine<S: Source, K: Sink>(
+    alloc: Global,
+    options: &Options,
+    source: &mut S,
+    sink: &mut K,
+) -> Result<(Engine, Passes), Status>
+    ensures opened { IfOk result (λ r. IsOpened options.now (S.left source.old) (S.left source.new) r.0 r.1) }
+    ensures silent { OnOk result (sink.new ≡ sink.old) }
+    ensures ended { IfErr result (λ s. (yard : YardCounts) → ServesOptions options.now (ports (S.left source.old) (S.faults source.old) (K.written sink.old) (K.faults sink.old))
+        (ports (S.left source.new) (S.faults source.new) (K.written sink.new) (K.faults sink.new)) yard yard s) }
+    ensures sure { KeepsSure (S.sure source.old) (S.sure source.new) (S.faults source.old) (S.faults source.new) }
+    ensures untouched { IsFalse (reads_source options.now.command) → source.new ≡ source.old }
+{
+    match options.command {
+        Command::Trial => match open_made(alloc, options) {
+            Ok(opened) => Ok(opened),
+            Err(_) => Err(Status::Memory),
+        },
+        _ => open_told(alloc, options, source, sink),
     }
 }
 
@@ -102,6 +140,7 @@ fn serve_locked<R: AllocGlobal + Threads + Wait + Sync, S: Source, K: Sink, G: G
     ensures serves { ServesOptions options.now (ports (S.left source.old) (S.faults source.old) (K.written sink.old) (K.faults sink.old))
         (ports (S.left source.new) (S.faults source.new) (K.written sink.new) (K.faults sink.new)) locked.old locked.new result }
     ensures sure { KeepsSure (S.sure source.old) (S.sure source.new) (S.faults source.old) (S.faults source.new) }
+    ensures untouched { IsFalse (reads_source options.now.command) → source.new ≡ source.old }
 {
     // The counts have 64 bits, so none falls.
     let _published = locked.published();
@@ -114,9 +153,9 @@ fn serve_locked<R: AllocGlobal + Threads + Wait + Sync, S: Source, K: Sink, G: G
 }
 
 /// Does what options with another builder than ORIG ask for: reads the scene from the source to its
-/// end, and writes the text to the sink, each frame before the next is begun. It writes nothing before
-/// the whole input is read. The workers build their trees in the yard and pass the gate. It waits for
-/// nobody.
+/// end, or makes it for a trial, which leaves the source as it is, and writes the text to the sink,
+/// each frame before the next is begun. It writes nothing before the whole input is read. The workers
+/// build their trees in the yard and pass the gate. It waits for nobody.
 ///
 /// It reads no words, and never answers `Usage`.
 pub fn serve_free<R: AllocGlobal + Threads + Sync, S: Source, K: Sink, G: Gate>(
@@ -132,6 +171,7 @@ pub fn serve_free<R: AllocGlobal + Threads + Sync, S: Source, K: Sink, G: Gate>(
     ensures serves { ServesOptions options.now (ports (S.left source.old) (S.faults source.old) (K.written sink.old) (K.faults sink.old))
         (ports (S.left source.new) (S.faults source.new) (K.written sink.new) (K.faults sink.new)) free.old free.new result }
     ensures sure { KeepsSure (S.sure source.old) (S.sure source.new) (S.faults source.old) (S.faults source.new) }
+    ensures untouched { IsFalse (reads_source options.now.command) → source.new ≡ source.old }
 {
     // The counts have 64 bits, so none falls.
     let _published = free.published();
@@ -143,11 +183,12 @@ pub fn serve_free<R: AllocGlobal + Threads + Sync, S: Source, K: Sink, G: Gate>(
     run_free(rt, options, &passes, &mut engine, free, gate, sink)
 }
 
-/// Does what the words ask for: reads the scene from the source to its end, and writes the text to
-/// the sink, each frame before the next is begun. It writes nothing before the whole input is read.
-/// Where the words have no options the text is the usage line. The workers build their trees and pass
-/// the gate: ORIG's in the yard whose trees have locks, for which it may wait, and those of every
-/// other builder by `serve_free`.
+/// Does what the words ask for: reads the scene from the source to its end, or makes it for a trial,
+/// and writes the text to the sink, each frame before the next is begun. It writes nothing before the
+/// whole input is read. Where the words have no options the text is the usage line; then, and in a
+/// trial, the source stays as it is. The workers build their trees and pass the gate: ORIG's in the
+/// yard whose trees have locks, for which it may wait, and those of every other builder by
+/// `serve_free`.
 pub fn serve<R: AllocGlobal + Threads + Wait + Sync, S: Source, K: Sink, G: Gate>(
     rt: &R,
     words: &[String],

@@ -6,7 +6,8 @@ ghost use Rattle.nbody_cli.specs.Status.{number_of};
 /// How a run of the program ended.
 #[derive(Clone, Copy, Debug, PartialEq, Eq)]
 pub enum Status {
-    /// The input was read to its end, the scene is accepted, and the whole text is written.
+    /// The input was read to its end and the scene is accepted, or the scene was made without touching
+    /// the source, and the whole text is written.
     Done,
     /// The words ask for nothing that is served, and the usage line is written.
     Usage,

@@ -125,13 +125,6 @@ choices_of value =
 
 -- ---- what is served
 
--- the commands that are served
-abbrev pub serves_command : Command → Bool
-serves_command command.Tree = true
-serves_command command.Passes = true
-serves_command command.Run = true
-serves_command command.Trial = false
-
 -- the builders that are served
 abbrev pub serves_builder : Builder → Bool
 serves_builder builder.Orig = true
@@ -145,9 +138,9 @@ abbrev pub serves_probe : ProbeChoice → Bool
 serves_probe probe.Nobody = true
 serves_probe _ = false
 
--- the program serves the choices: every command but `trial`, every builder but `update`, any number of steps, and no probe
+-- the program serves the choices: every command, every builder but `update`, any number of steps, and no probe
 abbrev pub is_served : Choices → Bool
-is_served c = serves_command c.command && (serves_builder c.plan.builder && serves_probe c.probe)
+is_served c = serves_builder c.plan.builder && serves_probe c.probe
 
 -- the choices, where they are served
 abbrev pub if_served : Choices → Option Choices

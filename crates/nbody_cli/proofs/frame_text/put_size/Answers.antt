@@ -4,18 +4,15 @@ use Rattle.bh_model.specs.Trees.{Tree, cell_count, depth}
 use Rattle.bh_outside.specs.Text.{Puts, PutsAll, PutsFront}
 use Rattle.octree.specs.Stored.{tree_of}
 use Rattle.nbody_cli.proofs.Rows.{one_last, one_stop, one_then}
-use Rattle.nbody_cli.specs.Frames.{size_lines}
-use Rattle.nbody_cli.specs.Lines.{TextLine, TreeLine, Words, Word, Number, line_text, lines_text}
+use Rattle.nbody_cli.specs.Frames.{cells_line, size_lines}
+use Rattle.nbody_cli.specs.Lines.{TextLine, TreeLine, Words, Number, line_text, lines_text}
 use Rattle.nbody_cli.proofs.frame_text.put_size.Goals as goal
 
 abbrev step_line : ℕ → TextLine
 step_line step = Words (codes "frame") (Number step ∷ [])
 
-abbrev size_line : ℕ → ℕ → TextLine
-size_line cells deep = Words (codes "cells") (Number cells ∷ Word (codes "depth") ∷ Number deep ∷ [])
-
 abbrev last_line : Tree → TextLine
-last_line t = size_line (cell_count t) (depth t)
+last_line t = cells_line (cell_count t) (depth t)
 
 -- the exits and the end of the first lines, by what was put of each
 after_step : {T E : Type 0} (n : ℕ) (t : Tree) (a b : Option (List ℕ)) (u v : List ℕ) (r : Result T E) → IsErr r
@@ -49,7 +46,7 @@ pub returns-clause-text : goal.returns-clause-text
 returns-clause-text g c =
     let t = tree_of c.args.tree.now in
     let P : ℕ → ℕ
-    → Type 0 = λ cells deep. Puts (g.K.Sink.written c.put_line-2.new.sink) (g.K.Sink.written c.put_line-3.new.sink) c.put_line-2.new.buffer
-    c.put_line-3.new.buffer (line_text (size_line cells deep)) c.put_line-3.result in
+    → Type 0 = λ cells deep. Puts (g.K.Sink.written c.put_line-2.new.sink) (g.K.Sink.written c.put_cells.new.sink) c.put_line-2.new.buffer
+    c.put_cells.new.buffer (line_text (cells_line cells deep)) c.put_cells.result in
     after_all c.args.step t _ _ _ _ _ _ _ _ _ c.in_ok-put_line.ensures.text c.in_ok-put_line-2.ensures.text
-    (subst (P (cell_count t)) c.requires.levels (subst (λ cells. P cells c.args.size.depth) c.requires.cells c.put_line-3.ensures.text))
+    (subst (P (cell_count t)) c.requires.levels (subst (λ cells. P cells c.args.size.depth) c.requires.cells c.put_cells.ensures.text))

@@ -2,7 +2,7 @@ use Rattle.std.proofs.Common.{◌<◌, arith, subst, sym}
 use Rattle.frame_core.specs.Building.{IsFree}
 use Rattle.frame_core.specs.Engines.{EngineState}
 use Rattle.scene_file.specs.Moves.{IsPass, SceneParts, pass_at}
-use Rattle.nbody_cli.proofs.Stages.{count_of, moved_as, no_trial, part_made, way_begin, way_end, way_next, way_pass, way_stop}
+use Rattle.nbody_cli.proofs.Stages.{count_of, moved_as, part_made, way_begin, way_end, way_next, way_pass, way_stop}
 use Rattle.nbody_cli.proofs.Turns.{part_refused}
 use Rattle.nbody_cli.specs.Serving.{IsCounted}
 use Rattle.nbody_cli.specs.Text.{part_of_frame}
@@ -13,7 +13,7 @@ pub loop-number-init : goal.loop-number-init
 loop-number-init g c =
     let o = c.args.options.now in
     let scene : SceneParts = record { bodies = c.args.engine.now.bodies; passes = c.args.passes.now } in
-    way_begin IsFree o scene _ c.args.engine.now (no_trial o.command c.requires.served) c.requires.builder c.requires.opened
+    way_begin IsFree o scene _ c.args.engine.now c.requires.builder c.requires.opened
 
 pub returns-in-Err : goal.returns-in-Err
 returns-in-Err g c =
@@ -21,11 +21,11 @@ returns-in-Err g c =
     let scene : SceneParts = record { bodies = c.args.engine.now.bodies; passes = c.args.passes.now } in
     let less : c.loop-number.number < count_of o scene.passes = omega (arith, c.loop-number-test.true, c.frame_count-number-end.ensures.value) in
     way_stop IsFree o scene _ c.loop-number.number _ _ c.loop-number.engine status.Memory less c.loop-number.invariant
-    (part_refused (part_of_frame o.command c.loop-number.engine) (g.K.Sink.written c.loop-number.sink) (g.K.Sink.faults c.loop-number.sink)
+    (part_refused (part_of_frame o c.loop-number.engine) (g.K.Sink.written c.loop-number.sink) (g.K.Sink.faults c.loop-number.sink)
     c.loop-number.free c.tree_free.new.free c.in-Err.ensures.kept) (λ e. cc)
 
 pub show_and_move_on-requires-clause-moves : goal.show_and_move_on-requires-clause-moves
-show_and_move_on-requires-clause-moves g c =
+show_and_move_on-requires-clause-moves g c κs outlives =
     let o = c.args.options.now in
     let scene : SceneParts = record { bodies = c.args.engine.now.bodies; passes = c.args.passes.now } in
     let P : EngineState → Type 0 = λ x. IsPass x.bodies (pass_at scene.passes c.loop-number.number) in
@@ -42,7 +42,7 @@ returns-in_default g c =
       changes = omega (arith, c.changes-changes.type_inv, c.changes-changes.ensures);
     } in
     way_stop IsFree o scene _ c.loop-number.number _ _ c.loop-number.engine c.show_and_move_on.result less c.loop-number.invariant
-    (part_made o.command c.loop-number.engine c.tree_free.new.self _ _ _ _ _ _ c.show_and_move_on.result c.in-Ok.ensures.made counted c.in-Ok.ensures.counts
+    (part_made o c.loop-number.engine c.tree_free.new.self _ _ _ _ _ _ c.show_and_move_on.result c.in-Ok.ensures.made counted c.in-Ok.ensures.counts
     c.show_and_move_on.ensures.shows) c.in_default.not-Done
 
 pub loop-number-preserved : goal.loop-number-preserved
@@ -56,7 +56,7 @@ loop-number-preserved g c =
     } in
     way_next IsFree o scene _ c.loop-number.number _ _ c.loop-number.engine c.show_and_move_on.new.engine c.show_and_move_on.result less
     c.loop-number.invariant
-    (part_made o.command c.loop-number.engine c.tree_free.new.self _ _ _ _ _ _ c.show_and_move_on.result c.in-Ok.ensures.made counted c.in-Ok.ensures.counts
+    (part_made o c.loop-number.engine c.tree_free.new.self _ _ _ _ _ _ c.show_and_move_on.result c.in-Ok.ensures.made counted c.in-Ok.ensures.counts
     c.show_and_move_on.ensures.shows) c.in-Done.is
     (moved_as o.command o.steps scene.passes c.loop-number.number c.loop-number.engine c.tree_free.new.self c.show_and_move_on.new.engine c.in-Ok.ensures.made
     (c.show_and_move_on.ensures.made c.in-Done.is))

@@ -1,27 +1,13 @@
-use Rattle.std.proofs.Common.{List, ℕ, subst}
-use Rattle.std.specs.Prelude.{IfErr}
-use Rattle.nbody_cli.proofs.Serving.{options_long, options_memory, options_read, scene_ended}
-use Rattle.nbody_cli.specs.Serving.{EndsEarly}
-use Rattle.scene_file.specs.Scene.{scene_of}
+use Rattle.std.proofs.Common.{◌∙◌, ap, sym}
+use Rattle.nbody_options.specs.Choices.{Choices}
+use Rattle.nbody_cli.proofs.Serving.{opened_made, options_memory}
 use Rattle.nbody_cli.proofs.service.open_engine.Goals as goal
 
-pub returns-in-Ok-TooLong-clause-ended : goal.returns-in-Ok-TooLong-clause-ended
-returns-in-Ok-TooLong-clause-ended g c =
-    let long = rw c.in-Ok-TooLong.field-0-is at c.in-Ok-TooLong.ensures.bytes in
-    λ yard. options_long c.args.options.now _ _ long.0 _ _ _ _ _ _ yard _ c.requires long.1 long.2 c.answer_fault.ensures
+pub returns-in-Ok-clause-opened : goal.returns-in-Ok-clause-opened
+returns-in-Ok-clause-opened g c =
+    let trial = sym (ap (λ (o : Choices). o.command) c.options.view_is) ∙ c.in-Trial.is in
+    opened_made c.args.options.now (g.S.Source.left c.args.source.now) c.in-Ok.opened.0 c.in-Ok.opened.1 trial c.in-Ok.ensures.bodies c.in-Ok.ensures.accepted
+    c.in-Ok.ensures.engine
 
-pub returns-in-Err-Failed-clause-ended : goal.returns-in-Err-Failed-clause-ended
-returns-in-Err-Failed-clause-ended g c =
-    λ yard. options_read c.args.options.now _ _ _ _ _ _ _ yard c.requires (rw c.in-Err-Failed.field-0-is at c.in-Err-Failed.ensures.failed)
-
-pub returns-in-Err-OutOfMemory-clause-ended : goal.returns-in-Err-OutOfMemory-clause-ended
-returns-in-Err-OutOfMemory-clause-ended g c = λ yard. options_memory c.args.options.now _ _ _ _ _ _ _ yard
-
-pub returns-in-Ok-Whole-clause-ended : goal.returns-in-Ok-Whole-clause-ended
-returns-in-Ok-Whole-clause-ended g c =
-    let read = rw c.in-Ok-Whole.field-0-is at c.in-Ok-Whole.ensures.bytes in
-    let P : List ℕ
-    → Type 0 = λ bytes. IfErr c.open_scene.result (λ s. EndsEarly s (scene_of bytes) (g.K.Sink.written c.args.sink.now) (g.K.Sink.faults c.args.sink.now)
-    (g.K.Sink.written c.open_scene.new.sink) (g.K.Sink.faults c.open_scene.new.sink)) in
-    scene_ended c.args.options.now _ _ c.in-Ok-Whole.bytes.items _ _ _ _ _ _ c.open_scene.result c.requires read.0 read.1
-    (subst P c.deref.ensures.value c.open_scene.ensures.ended)
+pub returns-in-Err-clause-ended : goal.returns-in-Err-clause-ended
+returns-in-Err-clause-ended g c = λ yard. options_memory c.args.options.now _ _ _ _ _ _ _ yard

@@ -3,7 +3,7 @@ use Rattle.std.specs.Prelude.{string_bytes}
 use Rattle.bh_model.specs.declared.plan.Builder.TheVariants.{Orig}
 use Rattle.nbody_options.proofs.Served.{options_are_served}
 use Rattle.nbody_options.specs.Options.{options_of}
-use Rattle.nbody_cli.proofs.Serving.{needs, serves_locked, serves_memory, serves_no_usage, serves_unlocked, serves_usage}
+use Rattle.nbody_cli.proofs.Serving.{reads_none, serves_locked, serves_memory, serves_no_usage, serves_unlocked, serves_usage}
 use Rattle.nbody_cli.proofs.service.serve.Goals as goal
 
 pub serve_locked-requires-clause-served : goal.serve_locked-requires-clause-served
@@ -18,8 +18,7 @@ returns-in-Orig-clause-serves g c =
     rw c.in-Ok.ensures (serves_locked c.in-Ok.options _ _ c.args.locked.now c.serve_locked.new.locked c.args.free.now _ orig c.serve_locked.ensures.serves)
 
 pub returns-in-Orig-clause-untouched : goal.returns-in-Orig-clause-untouched
-returns-in-Orig-clause-untouched g c = λ none.
-    absurd (needs _ c.in-Ok.options c.in-Ok.ensures (options_are_served _ c.in-Ok.options c.in-Ok.ensures) none)
+returns-in-Orig-clause-untouched g c = λ none. c.serve_locked.ensures.untouched (reads_none _ c.in-Ok.options c.in-Ok.ensures none)
 
 pub returns-in_default : goal.returns-in_default
 returns-in_default g c =
@@ -28,7 +27,7 @@ returns-in_default g c =
       serves = rw c.in-Ok.ensures
           (serves_unlocked c.in-Ok.options _ _ c.args.free.now c.serve_free.new.free c.args.locked.now _ other c.serve_free.ensures.serves);
       sure = c.serve_free.ensures.sure;
-      untouched = λ none. absurd (needs _ c.in-Ok.options c.in-Ok.ensures (options_are_served _ c.in-Ok.options c.in-Ok.ensures) none);
+      untouched = λ none. c.serve_free.ensures.untouched (reads_none _ c.in-Ok.options c.in-Ok.ensures none);
     }
 
 pub returns-in-Err-OutOfMemory-clause-serves : goal.returns-in-Err-OutOfMemory-clause-serves
