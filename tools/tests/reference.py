@@ -1,11 +1,12 @@
 #!/usr/bin/env python3
-"""What the program writes for a run of many steps and for passes, worked out slowly from the definitions of docs/formats.md
-with Python's whole numbers. For tests only: it shares no code with the tools, so that they are tried on a text they had no
-hand in.
+"""What the program writes for a run of many steps, for passes and for a trial, worked out slowly from the definitions of
+docs/formats.md with Python's whole numbers. For tests only: it shares no code with the tools, so that they are tried on a
+text they had no hand in.
 
-    tools/tests/reference.py run [--steps N] [--workers N] [--theta T/Q] [--g N] [--eps2 N] < SCENE
-    tools/tests/reference.py passes < SCENE
-    tools/tests/reference.py tree < SCENE
+    tools/tests/reference.py run [--steps N] [--workers N] [--theta T/Q] [--g N] [--eps2 N] [--builder NAME] [--probe NAME] < SCENE
+    tools/tests/reference.py passes [--builder NAME] [--workers N] < SCENE
+    tools/tests/reference.py tree [--builder NAME] [--workers N] < SCENE
+    tools/tests/reference.py trial [--count N] [--seed N] [--shape uniform|corner], and the options of run
 
 It reads scenes without a fault, of plain records alone.
 """
@@ -287,19 +288,24 @@ def read_scene(text):
 
 def main():
     words = argparse.ArgumentParser()
-    words.add_argument("command", choices=("run", "passes", "tree"))
-    for name, usual in (("steps", 1), ("workers", 1), ("g", UNIT), ("eps2", 0)):
+    words.add_argument("command", choices=("run", "passes", "tree", "trial"))
+    for name, usual in (("steps", 1), ("workers", 1), ("g", UNIT), ("eps2", 0), ("count", 1000), ("seed", 0)):
         words.add_argument("--" + name, type=int, default=usual)
-    words.add_argument("--theta", default="1/1")
+    for name, usual in (("theta", "1/1"), ("builder", "orig"), ("probe", "none"), ("shape", "uniform")):
+        words.add_argument("--" + name, default=usual)
     given = words.parse_args()
+    law = {"theta": tuple(int(it) for it in given.theta.split("/")), "g": given.g, "eps2": given.eps2}
+    if given.command == "trial":
+        sys.stdout.write(trial(given.count, given.seed, given.shape, given.steps, given.workers, **law))
+        return
     bodies, moves_of_passes = read_scene(sys.stdin.read())
     points = [point for _, point in bodies]
     if given.command == "tree":
-        sys.stdout.write(tree(points))
+        sys.stdout.write(tree(points, given.builder, given.workers))
         return
-    theta = tuple(int(it) for it in given.theta.split("/"))
-    run_frames = run(bodies, given.steps, given.workers, theta, given.g, given.eps2)
-    for frame in passes(points, moves_of_passes) if given.command == "passes" else run_frames:
+    told = (passes(points, moves_of_passes, given.builder, given.workers) if given.command == "passes"
+            else run(bodies, given.steps, given.workers, builder=given.builder, probe=given.probe, **law))
+    for frame in told:
         sys.stdout.write(frame)
         sys.stdout.flush()
 
