@@ -29,6 +29,8 @@ mod steps;
 #[cfg(test)]
 mod tables;
 #[cfg(test)]
+mod trials;
+#[cfg(test)]
 mod words;
 #[cfg(test)]
 mod workers;

@@ -78,8 +78,7 @@ fn words_out_of_the_plain_form_are_refused(rt: HostRuntime) -> Result<(), Fail> 
 
 #[test]
 fn what_is_not_served_is_refused(rt: HostRuntime) -> Result<(), Fail> {
-    let rows: [&[&str]; 3] = [
-        &["trial"],
+    let rows: [&[&str]; 2] = [
         &["tree", "--builder", "update"],
         &["tree", "--probe", "all"],
     ];
@@ -91,7 +90,8 @@ fn what_is_not_served_is_refused(rt: HostRuntime) -> Result<(), Fail> {
 
 #[test]
 fn what_is_served_has_options(rt: HostRuntime) -> Result<(), Fail> {
-    let rows: [&[&str]; 8] = [
+    let rows: [&[&str]; 9] = [
+        &["trial"],
         &["run", "--workers", "3"],
         &["passes", "--builder", "space"],
         &["run", "--steps", "10000"],
