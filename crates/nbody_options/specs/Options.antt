@@ -13,7 +13,7 @@ use Rattle.bh_model.specs.declared.plan.Builder.{Builder}
 use Rattle.bh_model.specs.declared.plan.Builder.TheVariants as builder
 use Rattle.nbody_options.specs.declared.options.Command.{Command}
 use Rattle.nbody_options.specs.declared.options.Command.TheVariants as command
-use Rattle.nbody_options.specs.declared.options.Kind.TheVariants as kind
+use Rattle.probe.specs.declared.kind.Kind.TheVariants as kind
 use Rattle.nbody_options.specs.declared.options.Made.{Made}
 use Rattle.nbody_options.specs.declared.options.OptionsFault.{OptionsFault}
 use Rattle.nbody_options.specs.declared.options.OptionsFault.TheVariants as fault

@@ -6,6 +6,7 @@ mod plain;
 mod read;
 mod values;
 
-pub use options::{Command, Kind, Made, Options, OptionsFault, ProbeChoice};
+pub use options::{Command, Made, Options, OptionsFault, ProbeChoice};
+pub use probe::Kind;
 pub use read::read_options;
 pub use scene_file::Shape;

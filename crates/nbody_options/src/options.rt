@@ -1,6 +1,7 @@
 //! What the words of a command line choose.
 
 use bh_model::Plan;
+use probe::Kind;
 use scene_file::Shape;
 use std::marker::Model;
 use thiserror::Error;
@@ -16,17 +17,6 @@ pub enum Command {
     Run,
     /// Makes a scene, runs it, and writes a summary of the last frame.
     Trial,
-}
-
-/// A probe of a run, by what it watches.
-#[derive(Clone, Copy, Debug, PartialEq, Eq)]
-pub enum Kind {
-    /// The costs of the zones.
-    Balance,
-    /// The sum of the pulls.
-    Momentum,
-    /// The first frames.
-    First,
 }
 
 /// The probes that a run keeps.

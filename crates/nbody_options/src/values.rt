@@ -7,10 +7,11 @@ ghost use Rattle.bh_model.specs.declared.plan.Builder.TheVariants as builder;
 ghost use Rattle.nbody_options.specs.declared.options.ProbeChoice.TheVariants as probe;
 ghost use Rattle.scene_file.specs.declared.made.Shape.TheVariants as shape;
 
-use crate::options::{Command, Kind, Made, Options, ProbeChoice};
+use crate::options::{Command, Made, Options, ProbeChoice};
 use bh_model::{Builder, Law, Plan};
 use clap::ArgMatches;
 use octant_code::{MOST_BODIES, read_decimal};
+use probe::Kind;
 use scene_file::Shape;
 
 fn command_of(word: Option<&str>) -> Option<Command>
