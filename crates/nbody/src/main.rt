@@ -6,6 +6,7 @@ use build_gate::OpenGate;
 use free_tree::FreeYard;
 use locked_tree::LockedYard;
 use nbody_cli::serve;
+use probe::{Balance, FirstFrames, Momentum, Probe};
 use std::alloc::{AllocError, Global};
 use std::process::ExitCode;
 use std::{env, io};
@@ -13,6 +14,9 @@ use std::{env, io};
 /// How many words of 64 bits make a block just below 32 MiB, the greatest that the C library learns
 /// from when it is given back.
 const BLOCK_WORDS: usize = 4_190_000;
+
+/// How many frames the probe of the first frames sees.
+const FIRST_FRAMES: u32 = 3;
 
 /// The words after the program's name.
 fn words_of(rt: &HostRuntime) -> io::Result<Vec<String>> {
@@ -40,6 +44,22 @@ fn main(rt: HostRuntime) -> ExitCode {
             _ => return ExitCode::from(1),
         },
     };
+    let alloc = rt.alloc();
+    let (balance, momentum, first) = match (
+        Box::new(alloc, Balance::new()),
+        Box::new(alloc, Momentum::new()),
+        Box::new(alloc, FirstFrames::new(FIRST_FRAMES)),
+    ) {
+        (Ok(balance), Ok(momentum), Ok(first)) => (balance, momentum, first),
+        _ => return ExitCode::from(6),
+    };
+    let mut probes: Vec<Box<dyn Probe>> = Vec::new(alloc);
+    if probes.push(balance).is_err()
+        || probes.push(momentum).is_err()
+        || probes.push(first).is_err()
+    {
+        return ExitCode::from(6);
+    }
     let mut source = StdSource::new(rt.stdin());
     let mut sink = StdSink::new(rt.stdout());
     let mut locked = LockedYard::new();
@@ -52,6 +72,7 @@ fn main(rt: HostRuntime) -> ExitCode {
         &mut locked,
         &mut free,
         &OpenGate,
+        probes,
     );
     ExitCode::from(status.number())
 }

@@ -2,3 +2,4 @@ mod Rows
 mod Serving
 mod Turns
 mod Stages
+mod KeptProbes

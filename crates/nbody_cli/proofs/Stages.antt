@@ -1,20 +1,24 @@
 -- The frames that are left of a run, and the next of them.
-use Rattle.std.proofs.Common.{◌≡◌, ◌∙◌, ◌<◌, ◌≤◌, ◌+◌, ◌-◌, ℕ, zero, suc, Bool, true, false, cond, Option, List, [], ◌∷◌, ◌++◌, length, map, take, drop, refl, sym, ap, subst, arith}
+use Rattle.std.proofs.Common.{◌≡◌, ◌∙◌, ◌<◌, ◌≤◌, ◌+◌, ◌-◌, ℕ, zero, suc, Bool, true, false, cond, Option, List, [], ◌∷◌, ◌++◌, length, take, drop, refl, sym, ap, subst, arith}
 use Rattle.std.proofs.lemmas.Bool.Decides.{nat_tests}
-use Rattle.std.proofs.lemmas.List.{at_drop_all, at_drop_more, take_more}
+use Rattle.std.proofs.lemmas.List.{append-nil, at_drop_all, at_drop_more, take_more}
 use Rattle.std.specs.Prelude.{nat_lt}
 use Rattle.bh_model.specs.declared.plan.Builder.{Builder}
 use Rattle.frame_core.specs.Building.{Rises}
-use Rattle.frame_core.specs.Engines.{EngineState, WithoutTree, builder_publishes, opened, with_frame, with_tree}
+use Rattle.frame_core.specs.Engines.{EngineState, WithoutTree, builder_publishes, frame_of, opened, with_frame, with_tree}
 use Rattle.frame_core.specs.Next.{drifted, pass_frames, run_frames, shifted_by}
 use Rattle.nbody_options.specs.Choices.{Choices}
 use Rattle.nbody_options.specs.declared.options.Command.{Command}
 use Rattle.nbody_options.specs.declared.options.Command.TheVariants as command
-use Rattle.nbody_cli.proofs.Turns.{GoesOn, on_begin, on_more, on_stop, part_shown, still}
+use Rattle.nbody_cli.proofs.Turns.{GoesOn, none_published, on_begin, on_more, on_stop, part_shown, still}
 use Rattle.nbody_cli.specs.Frames.{trial_lines}
 use Rattle.nbody_cli.specs.Lines.{TextLine, lines_text}
+use Rattle.nbody_cli.specs.Probes.{left_after, lines_at, probe_lines}
+use Rattle.nbody_options.specs.declared.options.ProbeChoice.{ProbeChoice}
+use Rattle.probe.specs.Figures.{FrameFigures}
+use Rattle.probe.specs.States.{ProbeState}
 use Rattle.nbody_cli.specs.Serving.{IsCounted, Output, Runs, RunsPart, Shows, frame_count, moved_on, output, with_parts}
-use Rattle.nbody_cli.specs.Text.{Part, command_parts, frames_of_command, is_last, lines_of_frame, part_of_frame}
+use Rattle.nbody_cli.specs.Text.{Part, command_parts, frame_parts, frames_of_command, is_last, kept_probes, lines_of_frame, part_of_frame, without_tree}
 use Rattle.nbody_cli.specs.declared.status.Status.{Status}
 use Rattle.nbody_cli.specs.declared.status.Status.TheVariants as status
 use Rattle.shared_tree.specs.Seen.{YardCounts}
@@ -90,8 +94,8 @@ passes_left steps passes (suc k) i e all =
     ∙ sym (at_drop_more (λ rest. pass_frames rest e) passes i [] within ∙ pass_more (pass_at passes i) (drop (i + 1) passes) e)
 
 -- the parts of so many frames from that of a number on
-abbrev pub parts_left : Choices → List (List Move) → (k i : ℕ) → EngineState → List Part
-parts_left o passes k i e = map (part_of_frame o) (frames_left o.command o.steps passes k i e)
+abbrev pub parts_left : List ProbeState → Choices → List (List Move) → (k i : ℕ) → EngineState → List Part
+parts_left ps o passes k i e = frame_parts ps o (frames_left o.command o.steps passes k i e)
 
 -- how many frames the options make
 abbrev pub count_of : Choices → List (List Move) → ℕ
@@ -110,14 +114,15 @@ frames_are command.Trial o scene =
     trial_left o.steps scene.passes o.steps 0 (opened o.plan scene.bodies)
     ∙ steps_left o.steps scene.passes o.steps 0 (opened o.plan scene.bodies) (omega arith)
 
-left_more : (o : Choices) (passes : List (List Move)) (k i : ℕ) (e : EngineState)
-    → parts_left o passes (suc k) i e ≡ part_of_frame o e ∷ parts_left o passes k (i + 1) (next o passes i e)
+left_more : (ps : List ProbeState) (o : Choices) (passes : List (List Move)) (k i : ℕ) (e : EngineState)
+    → parts_left ps o passes (suc k) i e ≡ part_of_frame ps o e ∷ parts_left (left_after (frame_of e) ps) o passes k (i + 1) (next o passes i e)
 unfolding frames_left
-left_more o passes k i e = refl
+left_more ps o passes k i e = refl
 
-left_none : (o : Choices) (passes : List (List Move)) (i : ℕ) (e : EngineState) → parts_left o passes 0 i e ≡ []
+left_none : (ps : List ProbeState) (o : Choices) (passes : List (List Move)) (i : ℕ) (e : EngineState)
+    → parts_left ps o passes 0 i e ≡ without_tree (probe_lines ps) ∷ []
 unfolding frames_left
-left_none o passes i e = refl
+left_none ps o passes i e = refl
 
 -- ---- what the next frame keeps
 
@@ -163,44 +168,57 @@ after_more passes i bodies within =
 -- ---- a run on its way
 
 -- A run is on its way to the frame of a number: the parts that are left begin with that frame, whose points have no tree yet, its builder makes trees in
--- the yard, and in a run of passes its bodies are those after the passes before.
-pub record IsOnTheWay (makes : Builder → Type 0) (o : Choices) (scene : SceneParts) (begun : Output) (i : ℕ) (now : Output) (e : EngineState) : Type 0 where
-  pub on : GoesOn (command_parts o scene) (parts_left o scene.passes (count_of o scene.passes - i) i e) begun now
+-- the yard, in a run of passes its bodies are those after the passes before, and only a run by steps keeps probes. `all` are those that were handed in,
+-- and `ps` those that are left.
+pub record IsOnTheWay (makes : Builder → Type 0) (all : List ProbeState) (o : Choices) (scene : SceneParts) (begun : Output) (i : ℕ) (now : Output)
+    (e : EngineState) (ps : List ProbeState) : Type 0 where
+  pub on : GoesOn (command_parts all o scene) (parts_left ps o scene.passes (count_of o scene.passes - i) i e) begun now
   pub bare : i < count_of o scene.passes → e.stage ≡ WithoutTree
   pub builder : makes e.plan.builder
   pub bodies : o.command ≡ command.Passes → i ≤ length scene.passes → e.bodies ≡ after_passes (take i scene.passes) scene.bodies
+  pub kept : (o.command ≡ command.Run → ⊥) → ps ≡ []
 
 -- the parts that are left at the beginning are all
-all_left : (o : Choices) (scene : SceneParts)
-    → parts_left o scene.passes (count_of o scene.passes - 0) 0 (opened o.plan scene.bodies) ≡ command_parts o scene
-all_left o scene =
+all_left : (all : List ProbeState) (o : Choices) (scene : SceneParts)
+    → parts_left (kept_probes o.command o.probe all) o scene.passes (count_of o scene.passes - 0) 0 (opened o.plan scene.bodies) ≡ command_parts all o scene
+all_left all o scene =
     let e = opened o.plan scene.bodies in
+    let ps = kept_probes o.command o.probe all in
     let whole : count_of o scene.passes - 0 ≡ count_of o scene.passes = omega arith in
-    ap (λ k. parts_left o scene.passes k 0 e) whole ∙ ap (map (part_of_frame o)) (frames_are o.command o scene)
+    ap (λ k. parts_left ps o scene.passes k 0 e) whole ∙ ap (frame_parts ps o) (frames_are o.command o scene)
+
+-- a command that runs no steps keeps no probes
+none_kept : (c : Command) (choice : ProbeChoice) (all : List ProbeState) → (c ≡ command.Run → ⊥) → kept_probes c choice all ≡ []
+none_kept command.Tree choice all other = refl
+none_kept command.Passes choice all other = refl
+none_kept command.Run choice all other = absurd (other refl)
+none_kept command.Trial choice all other = refl
 
 -- the first frame
-pub way_begin : (makes : Builder → Type 0) (o : Choices) (scene : SceneParts) (b : Output) (e : EngineState) → makes o.plan.builder
-    → e ≡ opened o.plan scene.bodies → IsOnTheWay makes o scene b 0 b e
-way_begin makes o scene b e builder is =
+pub way_begin : (makes : Builder → Type 0) (all : List ProbeState) (o : Choices) (scene : SceneParts) (b : Output) (e : EngineState) (ps : List ProbeState)
+    → makes o.plan.builder → e ≡ opened o.plan scene.bodies → ps ≡ kept_probes o.command o.probe all → IsOnTheWay makes all o scene b 0 b e ps
+way_begin makes all o scene b e ps builder is kept =
     let first = opened o.plan scene.bodies in
-    let P : EngineState → Type 0 = λ x. IsOnTheWay makes o scene b 0 b x in
-    let Q : List Part → Type 0 = λ parts. GoesOn (command_parts o scene) parts b b in
-    subst P (sym is) (record {
-      on = subst Q (sym (all_left o scene)) (on_begin (command_parts o scene) b);
+    let P : EngineState → Type 0 = λ x. IsOnTheWay makes all o scene b 0 b x ps in
+    let R : List ProbeState → Type 0 = λ x. IsOnTheWay makes all o scene b 0 b first x in
+    let Q : List Part → Type 0 = λ parts. GoesOn (command_parts all o scene) parts b b in
+    subst P (sym is) (subst R (sym kept) (record {
+      on = subst Q (sym (all_left all o scene)) (on_begin (command_parts all o scene) b);
       bare = λ less. refl;
       builder = builder;
       bodies = λ passes within. sym (after_none scene.bodies);
-    })
+      kept = λ other. none_kept o.command o.probe all other;
+    }))
 
 -- the parts that are left where a frame is
-way_left : (makes : Builder → Type 0) (o : Choices) (scene : SceneParts) (b : Output) (i : ℕ) (now : Output) (e : EngineState)
-    → i < count_of o scene.passes → IsOnTheWay makes o scene b i now e
-    → GoesOn (command_parts o scene) (part_of_frame o e ∷ parts_left o scene.passes (count_of o scene.passes - (i + 1)) (i + 1)
-    (next o scene.passes i e)) b now
-way_left makes o scene b i now e less way =
-    let P : List Part → Type 0 = λ parts. GoesOn (command_parts o scene) parts b now in
+way_left : (makes : Builder → Type 0) (all : List ProbeState) (o : Choices) (scene : SceneParts) (b : Output) (i : ℕ) (now : Output) (e : EngineState)
+    (ps : List ProbeState) → i < count_of o scene.passes → IsOnTheWay makes all o scene b i now e ps
+    → GoesOn (command_parts all o scene) (part_of_frame ps o e ∷ parts_left (left_after (frame_of e) ps) o scene.passes
+    (count_of o scene.passes - (i + 1)) (i + 1) (next o scene.passes i e)) b now
+way_left makes all o scene b i now e ps less way =
+    let P : List Part → Type 0 = λ parts. GoesOn (command_parts all o scene) parts b now in
     let one : count_of o scene.passes - i ≡ suc (count_of o scene.passes - (i + 1)) = omega arith in
-    subst P (ap (λ k. parts_left o scene.passes k i e) one ∙ left_more o scene.passes (count_of o scene.passes - (i + 1)) i e) way.on
+    subst P (ap (λ k. parts_left ps o scene.passes k i e) one ∙ left_more ps o scene.passes (count_of o scene.passes - (i + 1)) i e) way.on
 
 -- the bodies of the next frame
 next_bodies : (c : Command) (steps : ℕ) (passes : List (List Move)) (i : ℕ) (e : EngineState) (first : List Body) → c ≡ command.Passes → i < length passes
@@ -213,44 +231,59 @@ next_bodies command.Passes steps passes i e first is within bodies =
 next_bodies command.Run steps passes i e first is within bodies = cc
 next_bodies command.Trial steps passes i e first is within bodies = cc
 
--- a frame is whole, and the bodies moved on
-pub way_next : (makes : Builder → Type 0) (o : Choices) (scene : SceneParts) (b : Output) (i : ℕ) (now then : Output) (e e' : EngineState) (s : Status)
-    → i < count_of o scene.passes → IsOnTheWay makes o scene b i now e → RunsPart (part_of_frame o e) now then s → s ≡ status.Done
-    → e' ≡ moved_on o.command o.steps scene.passes i (with_parts o.command (with_tree e))
-    → IsOnTheWay makes o scene b (i + 1) then e'
-way_next makes o scene b i now then e e' s less way part done moved =
-    let P : EngineState → Type 0 = λ x. IsOnTheWay makes o scene b (i + 1) then x in
-    subst P (sym moved) (record {
-      on = on_more (command_parts o scene) (parts_left o scene.passes (count_of o scene.passes - (i + 1)) (i + 1) (next o scene.passes i e))
-          (part_of_frame o e) b now then s (way_left makes o scene b i now e less way) part done;
+-- a frame is whole, the bodies moved on, and the probes saw it
+pub way_next : (makes : Builder → Type 0) (all : List ProbeState) (o : Choices) (scene : SceneParts) (b : Output) (i : ℕ) (now then : Output)
+    (e e' : EngineState) (ps ps' : List ProbeState) (s : Status) → i < count_of o scene.passes → IsOnTheWay makes all o scene b i now e ps
+    → RunsPart (part_of_frame ps o e) now then s → s ≡ status.Done → e' ≡ moved_on o.command o.steps scene.passes i (with_parts o.command (with_tree e))
+    → ps' ≡ left_after (frame_of e) ps → IsOnTheWay makes all o scene b (i + 1) then e' ps'
+way_next makes all o scene b i now then e e' ps ps' s less way part done moved seen =
+    let left = left_after (frame_of e) ps in
+    let P : EngineState → Type 0 = λ x. IsOnTheWay makes all o scene b (i + 1) then x ps' in
+    let R : List ProbeState → Type 0 = λ x. IsOnTheWay makes all o scene b (i + 1) then (next o scene.passes i e) x in
+    subst P (sym moved) (subst R (sym seen) (record {
+      on = on_more (command_parts all o scene) (parts_left left o scene.passes (count_of o scene.passes - (i + 1)) (i + 1) (next o scene.passes i e))
+          (part_of_frame ps o e) b now then s (way_left makes all o scene b i now e ps less way) part done;
       bare = next_bare o.command o.steps scene.passes i e;
       builder = next_builder makes o.command o.steps scene.passes i e way.builder;
       bodies = λ passes within. next_bodies o.command o.steps scene.passes i e scene.bodies passes (omega arith) (way.bodies passes (omega arith));
-    })
+      kept = λ other. ap (left_after (frame_of e)) (way.kept other);
+    }))
 
 -- the run stopped in a frame
-pub way_stop : (makes : Builder → Type 0) (o : Choices) (scene : SceneParts) (b : Output) (i : ℕ) (now a : Output) (e : EngineState) (s : Status)
-    → i < count_of o scene.passes → IsOnTheWay makes o scene b i now e → RunsPart (part_of_frame o e) now a s → (s ≡ status.Done → ⊥)
-    → Runs (command_parts o scene) b a s
-way_stop makes o scene b i now a e s less way part other =
-    on_stop (command_parts o scene) (parts_left o scene.passes (count_of o scene.passes - (i + 1)) (i + 1) (next o scene.passes i e))
-    (part_of_frame o e) b now a s (way_left makes o scene b i now e less way) part other
+pub way_stop : (makes : Builder → Type 0) (all : List ProbeState) (o : Choices) (scene : SceneParts) (b : Output) (i : ℕ) (now a : Output) (e : EngineState)
+    (ps : List ProbeState) (s : Status) → i < count_of o scene.passes → IsOnTheWay makes all o scene b i now e ps
+    → RunsPart (part_of_frame ps o e) now a s → (s ≡ status.Done → ⊥) → Runs (command_parts all o scene) b a s
+way_stop makes all o scene b i now a e ps s less way part other =
+    on_stop (command_parts all o scene)
+    (parts_left (left_after (frame_of e) ps) o scene.passes (count_of o scene.passes - (i + 1)) (i + 1) (next o scene.passes i e))
+    (part_of_frame ps o e) b now a s (way_left makes all o scene b i now e ps less way) part other
 
--- all frames are whole
-pub way_end : (makes : Builder → Type 0) (o : Choices) (scene : SceneParts) (b : Output) (i : ℕ) (now : Output) (e : EngineState)
-    → count_of o scene.passes ≤ i → IsOnTheWay makes o scene b i now e
-    → Runs (command_parts o scene) b now status.Done
-way_end makes o scene b i now e past way =
-    let P : List Part → Type 0 = λ parts. GoesOn (command_parts o scene) parts b now in
+-- the last part ends a run, whatever its status
+runs_last : (all : List Part) (p : Part) (b now a : Output) (s : Status) → GoesOn all (p ∷ []) b now → RunsPart p now a s → Runs all b a s
+runs_last all p b now a status.Done way h = (on_more all [] p b now a status.Done way h refl).on a status.Done (still a)
+runs_last all p b now a status.Usage way h = absurd h
+runs_last all p b now a status.Read way h = absurd h
+runs_last all p b now a status.Write way h = on_stop all [] p b now a status.Write way h (λ e. cc)
+runs_last all p b now a status.Scene way h = absurd h
+runs_last all p b now a status.Memory way h = on_stop all [] p b now a status.Memory way h (λ e. cc)
+
+-- all frames are whole, and the probes that are left tell their lines
+pub way_end : (makes : Builder → Type 0) (all : List ProbeState) (o : Choices) (scene : SceneParts) (b : Output) (i : ℕ) (w v : Option (List ℕ)) (k l : ℕ)
+    (y : YardCounts) (e : EngineState) (ps : List ProbeState) (s : Status) → count_of o scene.passes ≤ i
+    → IsOnTheWay makes all o scene b i (output w k y) e ps → IsCounted y → Shows (probe_lines ps) w k v l s
+    → Runs (command_parts all o scene) b (output v l y) s
+way_end makes all o scene b i w v k l y e ps s past way counted shown =
+    let P : List Part → Type 0 = λ parts. GoesOn (command_parts all o scene) parts b (output w k y) in
     let none : count_of o scene.passes - i ≡ 0 = omega arith in
-    let end = subst P (ap (λ k. parts_left o scene.passes k i e) none ∙ left_none o scene.passes i e) way.on in
-    end.on now status.Done (still now)
+    let last = subst P (ap (λ n. parts_left ps o scene.passes n i e) none ∙ left_none ps o scene.passes i e) way.on in
+    runs_last (command_parts all o scene) (without_tree (probe_lines ps)) b (output w k y) (output v l y) s last
+    (part_shown (without_tree (probe_lines ps)) w v k l y y s counted (none_published y counted) shown)
 
 -- the pass of a number can be one over the bodies of its frame
-pub way_pass : (makes : Builder → Type 0) (o : Choices) (scene : SceneParts) (b : Output) (i : ℕ) (now : Output) (e : EngineState) → IsScene scene
-    → IsOnTheWay makes o scene b i now e → o.command ≡ command.Passes → i < length scene.passes
+pub way_pass : (makes : Builder → Type 0) (all : List ProbeState) (o : Choices) (scene : SceneParts) (b : Output) (i : ℕ) (now : Output) (e : EngineState)
+    (ps : List ProbeState) → IsScene scene → IsOnTheWay makes all o scene b i now e ps → o.command ≡ command.Passes → i < length scene.passes
     → IsPass (with_tree e).bodies (pass_at scene.passes i)
-way_pass makes o scene b i now e accepted way passes within =
+way_pass makes all o scene b i now e ps accepted way passes within =
     let P : List Body → Type 0 = λ bodies. IsPass bodies (pass_at scene.passes i) in
     subst P (sym (way.bodies passes (omega arith))) (accepted.passes i within)
 
@@ -264,12 +297,18 @@ lines_same command.Run o e = refl
 lines_same command.Trial o e = refl
 
 -- the part of a frame whose tree was made and shown
-pub part_made : (o : Choices) (e e1 : EngineState) (w v : Option (List ℕ)) (k l : ℕ) (y z : YardCounts) (s : Status) → e1 ≡ with_tree e → IsCounted y
-    → Rises (builder_publishes e) y z → Shows (lines_text (lines_of_frame o.command o e1)) w k v l s
-    → RunsPart (part_of_frame o e) (output w k y) (output v l z) s
-part_made o e e1 w v k l y z s made counted rose h =
-    let P : List TextLine → Type 0 = λ lines. Shows (lines_text lines) w k v l s in
-    part_shown (part_of_frame o e) w v k l y z s counted rose (subst P (ap (lines_of_frame o.command o) made ∙ lines_same o.command o e) h)
+pub part_made : (ps : List ProbeState) (o : Choices) (e e1 : EngineState) (w v : Option (List ℕ)) (k l : ℕ) (y z : YardCounts) (s : Status)
+    → e1 ≡ with_tree e → IsCounted y → Rises (builder_publishes e) y z
+    → Shows (lines_text (lines_of_frame o.command o e1) ++ lines_at (frame_of e1) ps) w k v l s
+    → RunsPart (part_of_frame ps o e) (output w k y) (output v l z) s
+part_made ps o e e1 w v k l y z s made counted rose h =
+    let P : EngineState → Type 0 = λ x. Shows (lines_text (lines_of_frame o.command o x) ++ lines_at (frame_of x) ps) w k v l s in
+    let Q : List TextLine → Type 0 = λ lines. Shows (lines_text lines ++ lines_at (frame_of e) ps) w k v l s in
+    part_shown (part_of_frame ps o e) w v k l y z s counted rose (subst Q (lines_same o.command o e) (subst P made h))
+
+-- the probes that are left, after a tree that was made
+pub seen_as : (ps left : List ProbeState) (e e1 : EngineState) → e1 ≡ with_tree e → left ≡ left_after (frame_of e1) ps → left ≡ left_after (frame_of e) ps
+seen_as ps left e e1 made seen = seen ∙ ap (λ (x : EngineState). left_after (frame_of x) ps) made
 
 -- the engine of the next frame, after that of a tree that was made
 pub moved_as : (c : Command) (steps : ℕ) (passes : List (List Move)) (i : ℕ) (e e1 e' : EngineState) → e1 ≡ with_tree e
@@ -279,12 +318,27 @@ moved_as c steps passes i e e1 e' made moved = moved ∙ ap (λ (x : EngineState
 
 -- ---- what is shown
 
--- how the writing of the lines of a frame ended, by the command
-pub shown_as : (c d : Command) (o : Choices) (e : EngineState) (w v : Option (List ℕ)) (k l : ℕ) (s : Status) → c ≡ d
-    → Shows (lines_text (lines_of_frame d o e)) w k v l s → Shows (lines_text (lines_of_frame c o e)) w k v l s
-shown_as c d o e w v k l s is h =
-    let P : Command → Type 0 = λ x. Shows (lines_text (lines_of_frame x o e)) w k v l s in
+-- how the writing of the lines of a frame ended, by the command, with a text behind them
+pub shown_as : (c d : Command) (o : Choices) (e : EngineState) (rest : List ℕ) (w v : Option (List ℕ)) (k l : ℕ) (s : Status) → c ≡ d
+    → Shows (lines_text (lines_of_frame d o e) ++ rest) w k v l s → Shows (lines_text (lines_of_frame c o e) ++ rest) w k v l s
+shown_as c d o e rest w v k l s is h =
+    let P : Command → Type 0 = λ x. Shows (lines_text (lines_of_frame x o e) ++ rest) w k v l s in
     subst P (sym is) h
+
+-- the same where there are no probes
+pub shown_alone : (c d : Command) (o : Choices) (e : EngineState) (f : FrameFigures) (ps : List ProbeState) (w v : Option (List ℕ)) (k l : ℕ) (s : Status)
+    → c ≡ d → ps ≡ [] → Shows (lines_text (lines_of_frame d o e)) w k v l s → Shows (lines_text (lines_of_frame c o e) ++ lines_at f ps) w k v l s
+shown_alone c d o e f ps w v k l s is none h =
+    let P : List ℕ → Type 0 = λ text. Shows text w k v l s in
+    let lines = lines_text (lines_of_frame d o e) in
+    shown_as c d o e (lines_at f ps) w v k l s is (subst P (sym (ap (λ x. lines ++ lines_at f x) none ∙ append-nil lines)) h)
+
+pub left_alone : (f : FrameFigures) (ps : List ProbeState) → ps ≡ [] → ps ≡ left_after f ps
+left_alone f ps none = none ∙ sym (ap (left_after f) none)
+
+-- a command that is another one is no run
+pub no_run : (c d : Command) → c ≡ d → (d ≡ command.Run → ⊥) → c ≡ command.Run → ⊥
+no_run c d is other run = other (sym is ∙ run)
 
 -- the lines of a trial are those of its last frame
 pub last_shown : (o : Choices) (e : EngineState) (w v : Option (List ℕ)) (k l : ℕ) (s : Status) → e.step + 1 ≡ o.steps

@@ -4,7 +4,7 @@ use Rattle.bh_outside.specs.Outside.{Took, TookPrefix}
 use Rattle.bh_outside.proofs.Takings.{no_prefix, prefix_more, prefix_then, rose_later, took_more, took_none}
 use Rattle.bh_model.specs.declared.plan.Builder.{Builder}
 use Rattle.bh_model.specs.declared.plan.Builder.TheVariants as builder
-use Rattle.frame_core.specs.Building.{Publications, Rises}
+use Rattle.frame_core.specs.Building.{Publications, Rises, one_for_each}
 use Rattle.frame_core.specs.Next.{sum_publications}
 use Rattle.shared_tree.specs.Seen.{YardCounts, risen}
 use Rattle.nbody_cli.specs.Serving.{AreWhole, IsCounted, IsStill, IsWhole, Output, RisesAtMost, Runs, RunsPart, Shows, StopsAmid, output}
@@ -61,6 +61,10 @@ within_first p q x y h = (omega arith, omega arith, omega arith, omega arith)
 published_none : (y : YardCounts) → IsCounted y → Rises (published_by []) y y
 unfolding sum_publications
 published_none y counted = (omega (arith, counted.published), 0, omega arith, omega arith, omega (arith, counted.changes))
+
+-- no tree publishes nothing
+pub none_published : (y : YardCounts) → IsCounted y → Rises (one_for_each 0) y y
+none_published y counted = (omega (arith, counted.published), 0, omega arith, omega arith, omega (arith, counted.changes))
 
 published_more : (p : Part) (rest : List Part) → published_by (p ∷ rest) ≡ both p.publishes (published_by rest)
 unfolding sum_publications both

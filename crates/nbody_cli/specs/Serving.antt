@@ -9,6 +9,7 @@ use Rattle.frame_core.specs.Building.{Publications, Rises}
 use Rattle.frame_core.specs.Engines.{EngineStage, EngineState, HasTree, WithFrame, opened, with_frame}
 use Rattle.frame_core.specs.Next.{drifted, shifted_by}
 use Rattle.shared_tree.specs.Seen.{YardCounts}
+use Rattle.probe.specs.States.{ProbeState}
 use Rattle.scene_file.specs.Made.{made_bodies}
 use Rattle.scene_file.specs.Moves.{IsScene, SceneParts, pass_at}
 use Rattle.scene_file.specs.Scene.{scene_of}
@@ -51,24 +52,24 @@ status_of_fault _ = status.Scene
 abbrev pub wanted_of_fault : SceneFault → Wanted
 wanted_of_fault f = record { status = status_of_fault f; parts = without_tree (refused_line f) ∷ []; reads = true }
 
--- what is wanted of options over a scene that has no fault: the text of its frames
-abbrev pub wanted_of_frames : Choices → SceneParts → Wanted
-wanted_of_frames o scene = record { status = status.Done; parts = command_parts o scene; reads = reads_source o.command }
+-- what is wanted of options over a scene that has no fault, by the probes that are handed in: the text of its frames
+abbrev pub wanted_of_frames : List ProbeState → Choices → SceneParts → Wanted
+wanted_of_frames probes o scene = record { status = status.Done; parts = command_parts probes o scene; reads = reads_source o.command }
 
 -- what is wanted of a command that reads the source, by the source's scene: its frames, or the line of the first fault
-abbrev pub wanted_of_scene : Choices → Result SceneParts SceneFault → Wanted
-wanted_of_scene o (Ok scene) = wanted_of_frames o scene
-wanted_of_scene o (Err f) = wanted_of_fault f
+abbrev pub wanted_of_scene : List ProbeState → Choices → Result SceneParts SceneFault → Wanted
+wanted_of_scene probes o (Ok scene) = wanted_of_frames probes o scene
+wanted_of_scene probes o (Err f) = wanted_of_fault f
 
 -- the scene that a command makes which reads none: so many bodies by a seed and a shape, and no pass
 abbrev pub scene_made_of : Made → SceneParts
 scene_made_of made = record { bodies = made_bodies made.count made.seed made.shape; passes = [] }
 
--- what is wanted, by the options and the bytes of the source: without options it is the usage line
-abbrev pub wanted : Option Choices → List ℕ → Wanted
-wanted None bytes = record { status = status.Usage; parts = without_tree usage_line ∷ []; reads = false }
-wanted (Some o) bytes =
-    if reads_source o.command then wanted_of_scene o (scene_of bytes) else wanted_of_frames o (scene_made_of o.made)
+-- what is wanted, by the probes that are handed in, the options and the bytes of the source: without options it is the usage line
+abbrev pub wanted : List ProbeState → Option Choices → List ℕ → Wanted
+wanted probes None bytes = record { status = status.Usage; parts = without_tree usage_line ∷ []; reads = false }
+wanted probes (Some o) bytes =
+    if reads_source o.command then wanted_of_scene probes o (scene_of bytes) else wanted_of_frames probes o (scene_made_of o.made)
 
 -- ---- what is read and written
 
@@ -104,11 +105,11 @@ AreLeft None bytes = ⊤
 AreLeft (Some left) bytes = left ≡ bytes
 
 -- what a run read and wrote, for some list of bytes that is what the source told
-pub record Answers (options : Option Choices) (before after : Ports) (answer : Status) : Type 0 where
+pub record Answers (probes : List ProbeState) (options : Option Choices) (before after : Ports) (answer : Status) : Type 0 where
   pub bytes : List ℕ
   pub told : AreLeft before.left bytes
-  pub ends : Ends (wanted options bytes) before after answer
-  pub complete : Completes (wanted options bytes) before after answer
+  pub ends : Ends (wanted probes options bytes) before after answer
+  pub complete : Completes (wanted probes options bytes) before after answer
 
 -- ---- what the yards count
 
@@ -205,28 +206,28 @@ other_yard_of _ w = w.locked
 -- ---- the top calls
 
 -- A run of words: what it read and wrote, what the yard of its builder counted, how far it came, and the other yard is as it was, whatever the status.
-pub record Serves (options : Option Choices) (before after : World) (answer : Status) : Type 0 where
-  pub answers : Answers options before.ports after.ports answer
-  pub counts : Counts (published_by (wanted options answers.bytes).parts) (yard_of (chosen_builder options) before) (yard_of (chosen_builder options) after) answer
-  pub in_turn : InTurn (wanted options answers.bytes).parts (output_of before.ports (yard_of (chosen_builder options) before))
+pub record Serves (probes : List ProbeState) (options : Option Choices) (before after : World) (answer : Status) : Type 0 where
+  pub answers : Answers probes options before.ports after.ports answer
+  pub counts : Counts (published_by (wanted probes options answers.bytes).parts) (yard_of (chosen_builder options) before) (yard_of (chosen_builder options) after) answer
+  pub in_turn : InTurn (wanted probes options answers.bytes).parts (output_of before.ports (yard_of (chosen_builder options) before))
       (output_of after.ports (yard_of (chosen_builder options) after)) answer
   pub other_yard : other_yard_of (chosen_builder options) after ≡ other_yard_of (chosen_builder options) before
 
 -- A run of options: what it read and wrote, what the yard counted that it was given, how far it came, and it never ends with Usage.
-pub record ServesOptions (o : Choices) (before after : Ports) (yard_before yard_after : YardCounts) (answer : Status) : Type 0 where
-  pub answers : Answers (Some o) before after answer
-  pub counts : Counts (published_by (wanted (Some o) answers.bytes).parts) yard_before yard_after answer
-  pub in_turn : InTurn (wanted (Some o) answers.bytes).parts (output_of before yard_before) (output_of after yard_after) answer
+pub record ServesOptions (probes : List ProbeState) (o : Choices) (before after : Ports) (yard_before yard_after : YardCounts) (answer : Status) : Type 0 where
+  pub answers : Answers probes (Some o) before after answer
+  pub counts : Counts (published_by (wanted probes (Some o) answers.bytes).parts) yard_before yard_after answer
+  pub in_turn : InTurn (wanted probes (Some o) answers.bytes).parts (output_of before yard_before) (output_of after yard_after) answer
   pub no_usage : answer ≡ status.Usage → ⊥
 
 -- ---- inside a run of options
 
 -- the engine and the passes of the scene whose frames are wanted: it is accepted, and the source was read to its end where the command reads it
-pub record IsOpened (o : Choices) (left_before left_after : Option (List ℕ)) (e : EngineState) (passes : List (List Move)) : Type 0 where
+pub record IsOpened (probes : List ProbeState) (o : Choices) (left_before left_after : Option (List ℕ)) (e : EngineState) (passes : List (List Move)) : Type 0 where
   pub bytes : List ℕ
   pub told : AreLeft left_before bytes
   pub end : IsTrue (reads_source o.command) → IsAtEnd left_after
-  pub scene : wanted (Some o) bytes ≡ wanted_of_frames o (record { bodies = e.bodies; passes = passes })
+  pub scene : wanted probes (Some o) bytes ≡ wanted_of_frames probes o (record { bodies = e.bodies; passes = passes })
   pub accepted : IsScene (record { bodies = e.bodies; passes = passes })
   pub engine : e ≡ opened o.plan e.bodies
 

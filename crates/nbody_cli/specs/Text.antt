@@ -1,14 +1,17 @@
 -- What the program writes.
-use Rattle.std.specs.Prelude.{◌==◌, ◌+◌, ℕ, Bool, List, [], ◌∷◌, codes, map, if◌then◌else◌}
+use Rattle.std.specs.Prelude.{◌==◌, ◌+◌, ℕ, Bool, List, [], ◌∷◌, ◌++◌, codes, map, if◌then◌else◌}
 use Rattle.std.specs.List.{flat_map}
 use Rattle.frame_core.specs.Building.{Publications, one_for_each}
-use Rattle.frame_core.specs.Engines.{EngineState, builder_publishes, opened}
+use Rattle.frame_core.specs.Engines.{EngineState, builder_publishes, frame_of, opened}
 use Rattle.frame_core.specs.Next.{pass_frames, run_frames, sum_publications}
 use Rattle.nbody_cli.specs.Frames.{frame_lines, pass_lines, tree_lines, trial_lines}
 use Rattle.nbody_cli.specs.Lines.{TextLine, Words, LineItem, Word, Number, lines_text}
+use Rattle.nbody_cli.specs.Probes.{chosen, left_after, lines_at, probe_lines}
 use Rattle.nbody_options.specs.Choices.{Choices}
 use Rattle.nbody_options.specs.declared.options.Command.{Command}
 use Rattle.nbody_options.specs.declared.options.Command.TheVariants as command
+use Rattle.nbody_options.specs.declared.options.ProbeChoice.{ProbeChoice}
+use Rattle.probe.specs.States.{ProbeState}
 use Rattle.scene_file.specs.Moves.{SceneParts}
 use Rattle.scene_file.specs.declared.fault.SceneFault.{SceneFault}
 use Rattle.scene_file.specs.declared.fault.SceneFault.TheVariants as fault
@@ -65,13 +68,24 @@ pub record Part : Type 0 where
 abbrev pub without_tree : List ℕ → Part
 without_tree text = record { text = text; publishes = one_for_each 0 }
 
--- a frame's part of the text of the options
-abbrev pub part_of_frame : Choices → EngineState → Part
-part_of_frame o e = record { text = lines_text (lines_of_frame o.command o e); publishes = builder_publishes e }
+-- the probes that a command keeps of those that are handed in: a run keeps those that are chosen
+abbrev pub kept_probes : Command → ProbeChoice → List ProbeState → List ProbeState
+kept_probes command.Run choice probes = chosen choice probes
+kept_probes _ choice probes = []
 
--- the parts of the text of the options over a scene, frame after frame
-abbrev pub command_parts : Choices → SceneParts → List Part
-command_parts o scene = map (part_of_frame o) (frames_of_command o.command o scene)
+-- a frame's part of the text of the options: its lines, and behind them those of the probes that it finishes
+abbrev pub part_of_frame : List ProbeState → Choices → EngineState → Part
+part_of_frame probes o e = record { text = lines_text (lines_of_frame o.command o e) ++ lines_at (frame_of e) probes; publishes = builder_publishes e }
+
+-- The parts of frames that probes see: frame after frame, each with the probes that are left of those before, and at last the lines of the probes that
+-- are left.
+abbrev pub frame_parts : List ProbeState → Choices → List EngineState → List Part
+frame_parts probes o [] = without_tree (probe_lines probes) ∷ []
+frame_parts probes o (e ∷ rest) = part_of_frame probes o e ∷ frame_parts (left_after (frame_of e) probes) o rest
+
+-- the parts of the text of the options over a scene, by the probes that are handed in
+abbrev pub command_parts : List ProbeState → Choices → SceneParts → List Part
+command_parts probes o scene = frame_parts (kept_probes o.command o.probe probes) o (frames_of_command o.command o scene)
 
 -- the text of parts, one after another
 abbrev pub text_of : List Part → List ℕ

@@ -1,18 +1,21 @@
 //! The frames of a run, one after another.
 
-ghost use Rattle.std.specs.Prelude.{◌≡◌, ◌<◌, ◌≤◌, ◌^◌, OnOk, length};
+ghost use Rattle.std.specs.Prelude.{◌≡◌, ◌<◌, ◌≤◌, ◌^◌, ◌++◌, [], OnOk, length, map};
 ghost use Rattle.bh_model.specs.declared.plan.Builder.TheVariants.{Orig};
 ghost use Rattle.frame_core.specs.Building.{IsFree};
 ghost use Rattle.frame_core.specs.Engines.{WithFrame, WithTree, frame_of, opened, with_frame};
 ghost use Rattle.nbody_cli.specs.Frames.{frame_lines, pass_lines, tree_lines};
 ghost use Rattle.nbody_cli.specs.Lines.{lines_text};
+ghost use Rattle.nbody_cli.specs.Probes.{left_after, lines_at};
+ghost use Rattle.probe.specs.States.{ProbeState};
 ghost use Rattle.nbody_cli.specs.Serving.{HasParts, Runs, Shows, frame_count, moved_on, output, with_parts};
 ghost use Rattle.nbody_cli.specs.Text.{command_parts, lines_of_frame};
 ghost use Rattle.nbody_cli.specs.declared.status.Status.TheVariants.{Done};
-ghost use Rattle.nbody_options.specs.declared.options.Command.TheVariants.{Passes as ByPasses, Trial as Summed};
+ghost use Rattle.nbody_options.specs.declared.options.Command.TheVariants.{Passes as ByPasses, Run as BySteps, Trial as Summed};
 ghost use Rattle.scene_file.specs.Moves.{IsPass, IsScene, pass_at};
 
 use crate::frame_text::{write_frame, write_pass, write_tree, write_trial};
+use crate::probes::{finish_probes, keep_probes, show_probes};
 use crate::status::Status;
 use bh_outside::Sink;
 use build_gate::Gate;
@@ -21,8 +24,9 @@ use free_tree::FreeYard;
 use locked_tree::LockedYard;
 use nbody_options::{Command, Options};
 use octant_code::OutOfMemory;
-use probe::Frame;
+use probe::{Frame, Probe};
 use scene_file::{MOST_PASSES, Passes};
+use std::alloc::Global;
 use std::marker::Sync;
 use std::sync::Wait;
 use std::thread::Threads;
@@ -49,23 +53,41 @@ fn show_pass<K: Sink>(engine: &Engine, sink: &mut K) -> Status
     }
 }
 
-/// Makes the frame of an engine whose bodies have their tree, and writes its lines. The workers pass the
-/// gate.
-fn show_step<R: Threads + Sync, K: Sink, G: Gate>(
+/// Writes the lines of a frame, shows it to the probes, and writes the lines of those that it finishes.
+fn show_frame<K: Sink>(
+    alloc: Global,
+    engine: &Engine,
+    frame: &Frame,
+    probes: &mut Vec<Box<dyn Probe>>,
+    sink: &mut K,
+) -> Status
+    requires stage { engine.now.stage ≡ WithFrame }
+    requires figures { frame.now ≡ frame_of engine.now }
+    ensures shows { Shows (lines_text (frame_lines engine.now) ++ lines_at frame.now (map (λ b. record { kind = kind b; state = state b }) probes.old.items)) (K.written sink.old) (K.faults sink.old) (K.written sink.new) (K.faults sink.new) result }
+    ensures left { result ≡ Done → map (λ b. record { kind = kind b; state = state b }) probes.new.items ≡ left_after frame.now (map (λ b. record { kind = kind b; state = state b }) probes.old.items) }
+{
+    match write_frame(sink, engine, frame) {
+        Ok(()) => show_probes(alloc, probes, frame, sink),
+        Err(_) => Status::Write,
+    }
+}
+
+/// Makes the frame of an engine whose bodies have their tree, writes its lines, and shows it to the
+/// probes. The workers pass the gate.
+fn show_step<R: AllocGlobal + Threads + Sync, K: Sink, G: Gate>(
     rt: &R,
     engine: &mut Engine,
+    probes: &mut Vec<Box<dyn Probe>>,
     gate: &G,
     sink: &mut K,
 ) -> Status
     requires { engine.old.stage ≡ WithTree }
-    ensures shows { Shows (lines_text (frame_lines engine.old)) (K.written sink.old) (K.faults sink.old) (K.written sink.new) (K.faults sink.new) result }
+    ensures shows { Shows (lines_text (frame_lines engine.old) ++ lines_at (frame_of engine.old) (map (λ b. record { kind = kind b; state = state b }) probes.old.items)) (K.written sink.old) (K.faults sink.old) (K.written sink.new) (K.faults sink.new) result }
     ensures made { result ≡ Done → engine.new ≡ with_frame engine.old }
+    ensures left { result ≡ Done → map (λ b. record { kind = kind b; state = state b }) probes.new.items ≡ left_after (frame_of engine.old) (map (λ b. record { kind = kind b; state = state b }) probes.old.items) }
 {
     match engine.frame(rt, gate) {
-        Ok(frame) => match write_frame(sink, engine, &frame) {
-            Ok(()) => Status::Done,
-            Err(_) => Status::Write,
-        },
+        Ok(frame) => show_frame(rt.alloc(), engine, &frame, probes, sink),
         Err(_) => Status::Memory,
     }
 }
@@ -106,21 +128,24 @@ fn show_trial<R: Threads + Sync, K: Sink, G: Gate>(
 }
 
 /// Writes what a command tells of an engine whose bodies have their tree.
-fn show<R: Threads + Sync, K: Sink, G: Gate>(
+fn show<R: AllocGlobal + Threads + Sync, K: Sink, G: Gate>(
     rt: &R,
     options: &Options,
     engine: &mut Engine,
+    probes: &mut Vec<Box<dyn Probe>>,
     gate: &G,
     sink: &mut K,
 ) -> Status
-    requires { engine.old.stage ≡ WithTree }
-    ensures shows { Shows (lines_text (lines_of_frame options.now.command options.now engine.old)) (K.written sink.old) (K.faults sink.old) (K.written sink.new) (K.faults sink.new) result }
+    requires tree { engine.old.stage ≡ WithTree }
+    requires kept { (options.now.command ≡ BySteps → ⊥) → map {B = ProbeState} (λ b. record { kind = kind b; state = state b }) probes.old.items ≡ [] }
+    ensures shows { Shows (lines_text (lines_of_frame options.now.command options.now engine.old) ++ lines_at (frame_of engine.old) (map (λ b. record { kind = kind b; state = state b }) probes.old.items)) (K.written sink.old) (K.faults sink.old) (K.written sink.new) (K.faults sink.new) result }
     ensures made { result ≡ Done → engine.new ≡ with_parts options.now.command engine.old }
+    ensures left { result ≡ Done → map (λ b. record { kind = kind b; state = state b }) probes.new.items ≡ left_after (frame_of engine.old) (map (λ b. record { kind = kind b; state = state b }) probes.old.items) }
 {
     match options.command {
         Command::Tree => show_tree(engine, sink),
         Command::Passes => show_pass(engine, sink),
-        Command::Run => show_step(rt, engine, gate, sink),
+        Command::Run => show_step(rt, engine, probes, gate, sink),
         Command::Trial => show_trial(rt, options, engine, gate, sink),
     }
 }
@@ -157,22 +182,25 @@ fn move_on(
 }
 
 /// Shows the frame of a number, whose tree is made, and moves the bodies on from it.
-fn show_and_move_on<R: Threads + Sync, K: Sink, G: Gate>(
+fn show_and_move_on<R: AllocGlobal + Threads + Sync, K: Sink, G: Gate>(
     rt: &R,
     options: &Options,
     passes: &Passes,
     number: usize,
     engine: &mut Engine,
+    probes: &mut Vec<Box<dyn Probe>>,
     gate: &G,
     sink: &mut K,
 ) -> Status
     requires few { number < 2 ^ 32 }
     requires tree { engine.old.stage ≡ WithTree }
+    requires kept { (options.now.command ≡ BySteps → ⊥) → map {B = ProbeState} (λ b. record { kind = kind b; state = state b }) probes.old.items ≡ [] }
     requires moves { options.now.command ≡ ByPasses → number < length passes.now → IsPass engine.old.bodies (pass_at passes.now number) }
-    ensures shows { Shows (lines_text (lines_of_frame options.now.command options.now engine.old)) (K.written sink.old) (K.faults sink.old) (K.written sink.new) (K.faults sink.new) result }
+    ensures shows { Shows (lines_text (lines_of_frame options.now.command options.now engine.old) ++ lines_at (frame_of engine.old) (map (λ b. record { kind = kind b; state = state b }) probes.old.items)) (K.written sink.old) (K.faults sink.old) (K.written sink.new) (K.faults sink.new) result }
     ensures made { result ≡ Done → engine.new ≡ moved_on options.now.command options.now.steps passes.now number (with_parts options.now.command engine.old) }
+    ensures left { result ≡ Done → map (λ b. record { kind = kind b; state = state b }) probes.new.items ≡ left_after (frame_of engine.old) (map (λ b. record { kind = kind b; state = state b }) probes.old.items) }
 {
-    match show(rt, options, engine, gate, sink) {
+    match show(rt, options, engine, probes, gate, sink) {
         Status::Done => match move_on(options, passes, number, engine) {
             Ok(()) => Status::Done,
             Err(_) => Status::Memory,
@@ -194,9 +222,10 @@ fn frame_count(options: &Options, passes: &Passes) -> usize
     }
 }
 
-/// The frames that the options make, one after another, of an engine whose trees ORIG makes in the yard
-/// with locks. It may wait.
-pub fn run_locked<R: Threads + Wait + Sync, K: Sink, G: Gate>(
+/// The frames that the options make, one after another, each shown to the probes that the options keep,
+/// and the lines of those that are left at the end, of an engine whose trees ORIG makes in the yard with
+/// locks. It may wait.
+pub fn run_locked<R: AllocGlobal + Threads + Wait + Sync, K: Sink, G: Gate>(
     rt: &R,
     options: &Options,
     passes: &Passes,
@@ -204,13 +233,16 @@ pub fn run_locked<R: Threads + Wait + Sync, K: Sink, G: Gate>(
     locked: &mut LockedYard,
     gate: &G,
     sink: &mut K,
+    probes: Vec<Box<dyn Probe>>,
 ) -> Status
     requires builder { options.now.plan.builder ≡ Orig }
     requires accepted { IsScene (record { bodies = engine.old.bodies; passes = passes.now }) }
     requires opened { engine.old ≡ opened options.now.plan engine.old.bodies }
-    ensures { Runs (command_parts options.now (record { bodies = engine.old.bodies; passes = passes.now })) (output (K.written sink.old) (K.faults sink.old) locked.old)
+    ensures { Runs (command_parts (map (λ b. record { kind = kind b; state = state b }) probes.items) options.now (record { bodies = engine.old.bodies; passes = passes.now })) (output (K.written sink.old) (K.faults sink.old) locked.old)
         (output (K.written sink.new) (K.faults sink.new) locked.new) result }
 {
+    let mut kept = probes;
+    keep_probes(options, &mut kept);
     for number in 0..frame_count(options, passes) {
         // The counts have 64 bits, so none falls.
         let _published = locked.published();
@@ -219,18 +251,20 @@ pub fn run_locked<R: Threads + Wait + Sync, K: Sink, G: Gate>(
             Ok(()) => {}
             Err(_) => return Status::Memory,
         }
-        match show_and_move_on(rt, options, passes, number, engine, gate, sink) {
+        match show_and_move_on(rt, options, passes, number, engine, &mut kept, gate, sink) {
             Status::Done => {}
             stopped => return stopped,
         }
     }
-    Status::Done
+    let _published = locked.published();
+    let _changes = locked.changes();
+    finish_probes(rt.alloc(), &kept, sink)
 }
 
 /// The frames that the options make, one after another, of an engine whose trees are made by a builder
 /// that waits for nobody, as `run_locked` does for ORIG. A method of a trait can't start the threads
 /// of both, so each has its loop.
-pub fn run_free<R: Threads + Sync, K: Sink, G: Gate>(
+pub fn run_free<R: AllocGlobal + Threads + Sync, K: Sink, G: Gate>(
     rt: &R,
     options: &Options,
     passes: &Passes,
@@ -238,13 +272,16 @@ pub fn run_free<R: Threads + Sync, K: Sink, G: Gate>(
     free: &mut FreeYard,
     gate: &G,
     sink: &mut K,
+    probes: Vec<Box<dyn Probe>>,
 ) -> Status
     requires builder { IsFree options.now.plan.builder }
     requires accepted { IsScene (record { bodies = engine.old.bodies; passes = passes.now }) }
     requires opened { engine.old ≡ opened options.now.plan engine.old.bodies }
-    ensures { Runs (command_parts options.now (record { bodies = engine.old.bodies; passes = passes.now })) (output (K.written sink.old) (K.faults sink.old) free.old)
+    ensures { Runs (command_parts (map (λ b. record { kind = kind b; state = state b }) probes.items) options.now (record { bodies = engine.old.bodies; passes = passes.now })) (output (K.written sink.old) (K.faults sink.old) free.old)
         (output (K.written sink.new) (K.faults sink.new) free.new) result }
 {
+    let mut kept = probes;
+    keep_probes(options, &mut kept);
     for number in 0..frame_count(options, passes) {
         // The counts have 64 bits, so none falls.
         let _published = free.published();
@@ -253,10 +290,12 @@ pub fn run_free<R: Threads + Sync, K: Sink, G: Gate>(
             Ok(()) => {}
             Err(_) => return Status::Memory,
         }
-        match show_and_move_on(rt, options, passes, number, engine, gate, sink) {
+        match show_and_move_on(rt, options, passes, number, engine, &mut kept, gate, sink) {
             Status::Done => {}
             stopped => return stopped,
         }
     }
-    Status::Done
+    let _published = free.published();
+    let _changes = free.changes();
+    finish_probes(rt.alloc(), &kept, sink)
 }

@@ -4,6 +4,7 @@
 mod frame_text;
 mod frames;
 mod lines;
+mod probes;
 mod service;
 mod status;
 mod text;

@@ -1,12 +1,13 @@
 //! The top calls.
 
-ghost use Rattle.std.specs.Prelude.{◌≡◌, Err, IfErr, IfOk, IsFalse, Ok, OnOk, map, string_bytes, true};
+ghost use Rattle.std.specs.Prelude.{◌≡◌, Err, IfErr, IfOk, IsFalse, List, Ok, OnOk, map, string_bytes, true};
 ghost use Rattle.bh_outside.specs.Outside.{KeepsSure};
 ghost use Rattle.frame_core.specs.Engines.{opened};
 ghost use Rattle.scene_file.specs.Moves.{IsScene};
 ghost use Rattle.scene_file.specs.Scene.{scene_of};
 ghost use Rattle.scene_file.specs.declared.fault.SceneFault.TheVariants.{OutOfMemory};
 ghost use Rattle.nbody_cli.specs.Serving.{EndsEarly, IsOpened, Serves, ServesOptions, needs_source, ports, reads_source, scene_made_of, world};
+ghost use Rattle.probe.specs.States.{ProbeState};
 ghost use Rattle.nbody_options.specs.Options.{is_served, options_of};
 ghost use Rattle.shared_tree.specs.Seen.{YardCounts};
 ghost use Rattle.bh_model.specs.declared.plan.Builder.TheVariants.{Orig};
@@ -21,6 +22,7 @@ use frame_core::Engine;
 use free_tree::FreeYard;
 use locked_tree::LockedYard;
 use nbody_options::{Command, Options, OptionsFault, read_options};
+use probe::Probe;
 use scene_file::{MOST_BYTES, Passes, SceneFault, made_scene, read_scene};
 use std::alloc::Global;
 use std::sync::Wait;
@@ -73,9 +75,9 @@ fn open_told<S: Source, K: Sink>(
     sink: &mut K,
 ) -> Result<(Engine, Passes), Status>
     requires { reads_source options.now.command ≡ true }
-    ensures opened { IfOk result (λ r. IsOpened options.now (S.left source.old) (S.left source.new) r.0 r.1) }
+    ensures opened { IfOk result (λ r. (probes : List ProbeState) → IsOpened probes options.now (S.left source.old) (S.left source.new) r.0 r.1) }
     ensures silent { OnOk result (sink.new ≡ sink.old) }
-    ensures ended { IfErr result (λ s. (yard : YardCounts) → ServesOptions options.now (ports (S.left source.old) (S.faults source.old) (K.written sink.old) (K.faults sink.old))
+    ensures ended { IfErr result (λ s. (probes : List ProbeState) (yard : YardCounts) → ServesOptions probes options.now (ports (S.left source.old) (S.faults source.old) (K.written sink.old) (K.faults sink.old))
         (ports (S.left source.new) (S.faults source.new) (K.written sink.new) (K.faults sink.new)) yard yard s) }
     ensures sure { KeepsSure (S.sure source.old) (S.sure source.new) (S.faults source.old) (S.faults source.new) }
 {
@@ -109,9 +111,9 @@ fn open_engine<S: Source, K: Sink>(
     source: &mut S,
     sink: &mut K,
 ) -> Result<(Engine, Passes), Status>
-    ensures opened { IfOk result (λ r. IsOpened options.now (S.left source.old) (S.left source.new) r.0 r.1) }
+    ensures opened { IfOk result (λ r. (probes : List ProbeState) → IsOpened probes options.now (S.left source.old) (S.left source.new) r.0 r.1) }
     ensures silent { OnOk result (sink.new ≡ sink.old) }
-    ensures ended { IfErr result (λ s. (yard : YardCounts) → ServesOptions options.now (ports (S.left source.old) (S.faults source.old) (K.written sink.old) (K.faults sink.old))
+    ensures ended { IfErr result (λ s. (probes : List ProbeState) (yard : YardCounts) → ServesOptions probes options.now (ports (S.left source.old) (S.faults source.old) (K.written sink.old) (K.faults sink.old))
         (ports (S.left source.new) (S.faults source.new) (K.written sink.new) (K.faults sink.new)) yard yard s) }
     ensures sure { KeepsSure (S.sure source.old) (S.sure source.new) (S.faults source.old) (S.faults source.new) }
     ensures untouched { IsFalse (reads_source options.now.command) → source.new ≡ source.old }
@@ -134,10 +136,11 @@ fn serve_locked<R: AllocGlobal + Threads + Wait + Sync, S: Source, K: Sink, G: G
     sink: &mut K,
     locked: &mut LockedYard,
     gate: &G,
+    probes: Vec<Box<dyn Probe>>,
 ) -> Status
     requires served { is_served options.now ≡ true }
     requires builder { options.now.plan.builder ≡ Orig }
-    ensures serves { ServesOptions options.now (ports (S.left source.old) (S.faults source.old) (K.written sink.old) (K.faults sink.old))
+    ensures serves { ServesOptions (map (λ b. record { kind = kind b; state = state b }) probes.items) options.now (ports (S.left source.old) (S.faults source.old) (K.written sink.old) (K.faults sink.old))
         (ports (S.left source.new) (S.faults source.new) (K.written sink.new) (K.faults sink.new)) locked.old locked.new result }
     ensures sure { KeepsSure (S.sure source.old) (S.sure source.new) (S.faults source.old) (S.faults source.new) }
     ensures untouched { IsFalse (reads_source options.now.command) → source.new ≡ source.old }
@@ -149,7 +152,16 @@ fn serve_locked<R: AllocGlobal + Threads + Wait + Sync, S: Source, K: Sink, G: G
         Ok(opened) => opened,
         Err(status) => return status,
     };
-    run_locked(rt, options, &passes, &mut engine, locked, gate, sink)
+    run_locked(
+        rt,
+        options,
+        &passes,
+        &mut engine,
+        locked,
+        gate,
+        sink,
+        probes,
+    )
 }
 
 /// Does what options with another builder than ORIG ask for: reads the scene from the source to its
@@ -165,10 +177,11 @@ pub fn serve_free<R: AllocGlobal + Threads + Sync, S: Source, K: Sink, G: Gate>(
     sink: &mut K,
     free: &mut FreeYard,
     gate: &G,
+    probes: Vec<Box<dyn Probe>>,
 ) -> Status
     requires served { is_served options.now ≡ true }
     requires builder { options.now.plan.builder ≡ Orig → ⊥ }
-    ensures serves { ServesOptions options.now (ports (S.left source.old) (S.faults source.old) (K.written sink.old) (K.faults sink.old))
+    ensures serves { ServesOptions (map (λ b. record { kind = kind b; state = state b }) probes.items) options.now (ports (S.left source.old) (S.faults source.old) (K.written sink.old) (K.faults sink.old))
         (ports (S.left source.new) (S.faults source.new) (K.written sink.new) (K.faults sink.new)) free.old free.new result }
     ensures sure { KeepsSure (S.sure source.old) (S.sure source.new) (S.faults source.old) (S.faults source.new) }
     ensures untouched { IsFalse (reads_source options.now.command) → source.new ≡ source.old }
@@ -180,7 +193,7 @@ pub fn serve_free<R: AllocGlobal + Threads + Sync, S: Source, K: Sink, G: Gate>(
         Ok(opened) => opened,
         Err(status) => return status,
     };
-    run_free(rt, options, &passes, &mut engine, free, gate, sink)
+    run_free(rt, options, &passes, &mut engine, free, gate, sink, probes)
 }
 
 /// Does what the words ask for: reads the scene from the source to its end, or makes it for a trial,
@@ -197,21 +210,23 @@ pub fn serve<R: AllocGlobal + Threads + Wait + Sync, S: Source, K: Sink, G: Gate
     locked: &mut LockedYard,
     free: &mut FreeYard,
     gate: &G,
+    probes: Vec<Box<dyn Probe>>,
 ) -> Status
-    ensures serves { Serves (options_of (map string_bytes words.now)) (world (ports (S.left source.old) (S.faults source.old) (K.written sink.old) (K.faults sink.old)) locked.old free.old)
+    ensures serves { Serves (map (λ b. record { kind = kind b; state = state b }) probes.items) (options_of (map string_bytes words.now)) (world (ports (S.left source.old) (S.faults source.old) (K.written sink.old) (K.faults sink.old)) locked.old free.old)
         (world (ports (S.left source.new) (S.faults source.new) (K.written sink.new) (K.faults sink.new)) locked.new free.new) result }
     ensures sure { KeepsSure (S.sure source.old) (S.sure source.new) (S.faults source.old) (S.faults source.new) }
     ensures untouched { IsFalse (needs_source (options_of (map string_bytes words.now))) → source.new ≡ source.old }
 {
-    match read_options(rt.alloc(), words) {
-        Ok(options) => match options.plan.builder {
-            Builder::Orig => serve_locked(rt, &options, source, sink, locked, gate),
-            _ => serve_free(rt, &options, source, sink, free, gate),
-        },
-        Err(OptionsFault::OutOfMemory) => Status::Memory,
+    let options = match read_options(rt.alloc(), words) {
+        Ok(options) => options,
+        Err(OptionsFault::OutOfMemory) => return Status::Memory,
         Err(OptionsFault::Usage) => match write_usage(sink) {
-            Ok(()) => Status::Usage,
-            Err(_) => Status::Write,
+            Ok(()) => return Status::Usage,
+            Err(_) => return Status::Write,
         },
+    };
+    match options.plan.builder {
+        Builder::Orig => serve_locked(rt, &options, source, sink, locked, gate, probes),
+        _ => serve_free(rt, &options, source, sink, free, gate, probes),
     }
 }

@@ -133,14 +133,9 @@ serves_builder builder.Partree = true
 serves_builder builder.Space = true
 serves_builder _ = false
 
--- the probes that are served
-abbrev pub serves_probe : ProbeChoice → Bool
-serves_probe probe.Nobody = true
-serves_probe _ = false
-
--- the program serves the choices: every command, every builder but `update`, any number of steps, and no probe
+-- the program serves the choices: every command, every builder but `update`, any number of steps, and any probes
 abbrev pub is_served : Choices → Bool
-is_served c = serves_builder c.plan.builder && serves_probe c.probe
+is_served c = serves_builder c.plan.builder
 
 -- the choices, where they are served
 abbrev pub if_served : Choices → Option Choices

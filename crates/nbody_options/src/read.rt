@@ -6,7 +6,7 @@ ghost use Rattle.clap.specs.Walk.{rule_of};
 ghost use Rattle.nbody_options.specs.Line.{command_rule, line, option_rule, with_options};
 ghost use Rattle.nbody_options.specs.Options.{Chooses, if_served, is_served, options_of};
 
-use crate::options::{Options, OptionsFault, ProbeChoice};
+use crate::options::{Options, OptionsFault};
 use crate::plain::{COMMAND, OPTION_NAMES, is_plain};
 use crate::values::choices_of;
 use bh_model::Builder;
@@ -68,7 +68,7 @@ fn is_served(options: &Options) -> bool
     matches!(
         options.plan.builder,
         Builder::Orig | Builder::Local | Builder::Partree | Builder::Space
-    ) && matches!(options.probe, ProbeChoice::Nobody)
+    )
 }
 
 /// The options of the words that follow the program's name.

@@ -19,6 +19,8 @@ mod plain;
 #[cfg(test)]
 mod private_trees;
 #[cfg(test)]
+mod probes;
+#[cfg(test)]
 mod regions;
 #[cfg(test)]
 mod rows;

@@ -170,6 +170,7 @@ fn is_done<R: Abort + AllocGlobal + Threads + Wait + Sync>(
         &mut locked,
         &mut free,
         &OpenGate,
+        Vec::new(alloc),
     );
     assert_eq!(rt; status, Status::Done);
     Ok(())

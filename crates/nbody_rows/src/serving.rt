@@ -5,6 +5,7 @@ use build_gate::{Gate, OpenGate};
 use free_tree::FreeYard;
 use locked_tree::LockedYard;
 use nbody_cli::{Status, serve};
+use probe::Probe;
 use std::alloc::Global;
 use std::process::Abort;
 use std::sync::Wait;
@@ -61,13 +62,14 @@ pub struct Ran {
     pub free: Counts,
 }
 
-/// The run of these words over a scene, whose workers pass a gate.
-pub fn run_at<R: Abort + AllocGlobal + Threads + Wait + Sync, G: Gate>(
+/// The run of these words over a scene, whose workers pass a gate, with these probes.
+pub fn run_probed<R: Abort + AllocGlobal + Threads + Wait + Sync, G: Gate>(
     rt: &R,
     line: &str,
     scene: &[u8],
     ends: &Ends,
     gate: &G,
+    probes: Vec<Box<dyn Probe>>,
 ) -> Result<Ran, Fail> {
     let alloc = rt.alloc();
     let words = words_of(alloc, line)?;
@@ -85,6 +87,7 @@ pub fn run_at<R: Abort + AllocGlobal + Threads + Wait + Sync, G: Gate>(
         &mut locked,
         &mut free,
         gate,
+        probes,
     );
     Ok(Ran {
         status,
@@ -98,6 +101,17 @@ pub fn run_at<R: Abort + AllocGlobal + Threads + Wait + Sync, G: Gate>(
             changes: free.changes(),
         },
     })
+}
+
+/// The run of these words over a scene, whose workers pass a gate, without probes.
+pub fn run_at<R: Abort + AllocGlobal + Threads + Wait + Sync, G: Gate>(
+    rt: &R,
+    line: &str,
+    scene: &[u8],
+    ends: &Ends,
+    gate: &G,
+) -> Result<Ran, Fail> {
+    run_probed(rt, line, scene, ends, gate, Vec::new(rt.alloc()))
 }
 
 /// How a run of these words over a scene ends, and what it writes.

@@ -8,14 +8,14 @@ use Rattle.nbody_cli.proofs.service.open_told.Goals as goal
 pub returns-in-Ok-TooLong-clause-ended : goal.returns-in-Ok-TooLong-clause-ended
 returns-in-Ok-TooLong-clause-ended g c =
     let long = rw c.in-Ok-TooLong.field-0-is at c.in-Ok-TooLong.ensures.bytes in
-    λ yard. options_long c.args.options.now _ _ long.0 _ _ _ _ _ _ yard _ c.requires long.1 long.2 c.answer_fault.ensures
+    λ ps yard. options_long ps c.args.options.now _ _ long.0 _ _ _ _ _ _ yard _ c.requires long.1 long.2 c.answer_fault.ensures
 
 pub returns-in-Err-Failed-clause-ended : goal.returns-in-Err-Failed-clause-ended
 returns-in-Err-Failed-clause-ended g c =
-    λ yard. options_read c.args.options.now _ _ _ _ _ _ _ yard c.requires (rw c.in-Err-Failed.field-0-is at c.in-Err-Failed.ensures.failed)
+    λ ps yard. options_read ps c.args.options.now _ _ _ _ _ _ _ yard c.requires (rw c.in-Err-Failed.field-0-is at c.in-Err-Failed.ensures.failed)
 
 pub returns-in-Err-OutOfMemory-clause-ended : goal.returns-in-Err-OutOfMemory-clause-ended
-returns-in-Err-OutOfMemory-clause-ended g c = λ yard. options_memory c.args.options.now _ _ _ _ _ _ _ yard
+returns-in-Err-OutOfMemory-clause-ended g c = λ ps yard. options_memory ps c.args.options.now _ _ _ _ _ _ _ yard
 
 pub returns-in-Ok-Whole-clause-ended : goal.returns-in-Ok-Whole-clause-ended
 returns-in-Ok-Whole-clause-ended g c =

@@ -15,7 +15,7 @@ serve_free-requires-clause-served g c κs within = options_are_served _ c.in-Ok.
 pub returns-in-Orig-clause-serves : goal.returns-in-Orig-clause-serves
 returns-in-Orig-clause-serves g c =
     let orig : c.in-Ok.options.plan.builder ≡ Orig = search rules in
-    rw c.in-Ok.ensures (serves_locked c.in-Ok.options _ _ c.args.locked.now c.serve_locked.new.locked c.args.free.now _ orig c.serve_locked.ensures.serves)
+    rw c.in-Ok.ensures (serves_locked _ c.in-Ok.options _ _ c.args.locked.now c.serve_locked.new.locked c.args.free.now _ orig c.serve_locked.ensures.serves)
 
 pub returns-in-Orig-clause-untouched : goal.returns-in-Orig-clause-untouched
 returns-in-Orig-clause-untouched g c = λ none. c.serve_locked.ensures.untouched (reads_none _ c.in-Ok.options c.in-Ok.ensures none)
@@ -25,22 +25,22 @@ returns-in_default g c =
     let other : c.in-Ok.options.plan.builder ≡ Orig → ⊥ = search rules in
     record {
       serves = rw c.in-Ok.ensures
-          (serves_unlocked c.in-Ok.options _ _ c.args.free.now c.serve_free.new.free c.args.locked.now _ other c.serve_free.ensures.serves);
+          (serves_unlocked _ c.in-Ok.options _ _ c.args.free.now c.serve_free.new.free c.args.locked.now _ other c.serve_free.ensures.serves);
       sure = c.serve_free.ensures.sure;
       untouched = λ none. c.serve_free.ensures.untouched (reads_none _ c.in-Ok.options c.in-Ok.ensures none);
     }
 
 pub returns-in-Err-OutOfMemory-clause-serves : goal.returns-in-Err-OutOfMemory-clause-serves
 returns-in-Err-OutOfMemory-clause-serves g c =
-    serves_memory (options_of (map string_bytes c.args.words.now)) (g.S.Source.left c.args.source.now) (g.S.Source.faults c.args.source.now)
+    serves_memory _ (options_of (map string_bytes c.args.words.now)) (g.S.Source.left c.args.source.now) (g.S.Source.faults c.args.source.now)
     (g.K.Sink.written c.args.sink.now) (g.K.Sink.faults c.args.sink.now) c.args.locked.now c.args.free.now
 
 pub returns-in-Ok-write_usage-clause-serves : goal.returns-in-Ok-write_usage-clause-serves
 returns-in-Ok-write_usage-clause-serves g c =
-    serves_usage (options_of (map string_bytes c.args.words.now)) _ _ _ _ _ _ c.args.locked.now c.args.free.now
+    serves_usage _ (options_of (map string_bytes c.args.words.now)) _ _ _ _ _ _ c.args.locked.now c.args.free.now
     (rw c.in-Err-Usage.field-0-is at c.in-Err-Usage.ensures) c.in-Ok-write_usage.ensures.text
 
 pub returns-in-Err-clause-serves : goal.returns-in-Err-clause-serves
 returns-in-Err-clause-serves g c =
-    serves_no_usage (options_of (map string_bytes c.args.words.now)) _ _ _ _ _ _ c.args.locked.now c.args.free.now
+    serves_no_usage _ (options_of (map string_bytes c.args.words.now)) _ _ _ _ _ _ c.args.locked.now c.args.free.now
     (rw c.in-Err-Usage.field-0-is at c.in-Err-Usage.ensures) c.in-Err.ensures.cause.failed c.in-Err.ensures.text
