@@ -4,6 +4,8 @@ pub mod Divisions
 pub mod Counts
 pub mod Pushes
 pub mod Sorting
+pub mod Spread
+pub mod Ranked
 pub mod Runs
 pub mod Members
 pub mod Above

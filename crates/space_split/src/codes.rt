@@ -1,12 +1,18 @@
 //! The bodies in the order of their points' codes.
 
-ghost use Rattle.std.specs.Prelude.{◌≡◌, ◌<◌, IfOk, length, map};
+ghost use Rattle.std.specs.Prelude.{◌≡◌, ◌<◌, All, IfOk, length, map};
+ghost use Rattle.std.specs.List.Sorted.{IsPermutation};
 ghost use Rattle.octant_code.specs.Points.{site_at};
 ghost use Rattle.octant_code.specs.Space.{key_of};
 ghost use Rattle.bh_model.specs.Bodies.{numbers};
+ghost use Rattle.bh_model.specs.Plans.{HasWorkers};
+ghost use Rattle.octree.specs.Ranks.{body_of_rank};
 ghost use Rattle.space_split.specs.Sorted.{AreSorted, coded_of};
+ghost use Rattle.space_split.specs.Spreads.{AreSpreads};
 
-use octant_code::{LEVELS, OutOfMemory, Points, key_at};
+use crate::interleave::{code_of, spreads};
+use octant_code::{OutOfMemory, Points};
+use octree::{body_of, rank_of};
 use rayon::prelude::*;
 use std::alloc::Global;
 use std::thread::Threads;
@@ -19,37 +25,94 @@ pub struct Coded {
 }
 
 /// All bodies with their codes, the least code first, so that the bodies of each cube stand side by
-/// side.
+/// side. Ranks, of one word each, bring them into that order but for those whose points lie in one
+/// cube of level 15; only where such bodies stand the other way round does the last sort move any.
 pub fn sorted_bodies<R: Threads + Sync>(
     rt: &R,
     alloc: Global,
     points: &Points,
+    workers: u32,
 ) -> Result<Vec<Coded>, OutOfMemory>
+    requires { HasWorkers workers }
     ensures { IfOk result (λ v. AreSorted points.now v.items) }
 {
-    let mut bodies = coded_bodies(rt, alloc, points)?;
-    par_sort_unstable_by_key(rt, bodies.as_mut_slice(), |b: &Coded| b.code);
+    let mut ranks = ranks_of(rt, alloc, points, workers)?;
+    sort_ranks(rt, ranks.as_mut_slice(), workers);
+    let mut bodies = coded_bodies(rt, alloc, points, &ranks, workers)?;
+    bodies.sort_unstable_by_key(|b: &Coded| b.code);
     Ok(bodies)
 }
 
-/// All bodies with their codes, by their numbers.
+/// How many items of so many a thread works on at least, where there is a thread for each worker.
+pub fn least_piece(count: usize, workers: u32) -> usize
+    requires { HasWorkers workers }
+{
+    (count / workers as usize).max(1)
+}
+
+/// The ranks of all bodies, by their numbers.
+fn ranks_of<R: Threads + Sync>(
+    rt: &R,
+    alloc: Global,
+    points: &Points,
+    workers: u32,
+) -> Result<Vec<u64>, OutOfMemory>
+    requires { HasWorkers workers }
+    ensures { IfOk result (λ v. map body_of_rank v.items ≡ numbers (length points.now)) }
+{
+    let ranks: Vec<u64> = (0..points.len())
+        .into_par_iter()
+        .with_min_len(least_piece(points.len() as usize, workers))
+        .map(
+            |n: u32| -> u64
+                requires { n < length points.now }
+                ensures { body_of_rank result ≡ n }
+            {
+                let _few = points.len();
+                rank_of(points.at(n), n)
+            },
+        )
+        .collect(rt, alloc)?;
+    Ok(ranks)
+}
+
+/// Sorts ranks, by one worker in the calling thread.
+fn sort_ranks<R: Threads + Sync>(rt: &R, ranks: &mut [u64], workers: u32)
+    ensures permutation { IsPermutation ranks.old ranks.new }
+    ensures len { length ranks.new ≡ length ranks.old }
+{
+    if workers == 1 {
+        ranks.sort_unstable();
+    } else {
+        par_sort_unstable(rt, ranks);
+    }
+}
+
+/// The bodies of ranks with their codes, in the order of the ranks.
 fn coded_bodies<R: Threads + Sync>(
     rt: &R,
     alloc: Global,
     points: &Points,
+    ranks: &[u64],
+    workers: u32,
 ) -> Result<Vec<Coded>, OutOfMemory>
-    ensures { IfOk result (λ v. v.items ≡ map (coded_of (site_at points.now)) (numbers (length points.now))) }
+    requires workers { HasWorkers workers }
+    requires known { All (λ r. body_of_rank r < length points.now) ranks.now }
+    ensures { IfOk result (λ v. v.items ≡ map (λ r. coded_of (site_at points.now) (body_of_rank r)) ranks.now) }
 {
-    let bodies: Vec<Coded> = (0..points.len())
-        .into_par_iter()
+    let spreads = spreads();
+    let bodies: Vec<Coded> = ranks
+        .par_iter()
+        .with_min_len(least_piece(ranks.len(), workers))
         .map(
-            |n: u32| -> Coded
-                requires { n < length points.now }
-                ensures { result ≡ coded_of (site_at points.entry.now) n }
+            |rank: &u64| -> Coded
+                requires { (body_of_rank rank.now < length points.now) × AreSpreads spreads }
+                ensures { result ≡ coded_of (site_at points.entry.now) (body_of_rank rank.now) }
             {
+                let body = body_of(*rank);
                 Coded {
-                    code: key_at(points.at(n), LEVELS),
-                    body: n,
+                    code: code_of(&spreads, points.at(body)),
+                    body,
                 }
             },
         )

@@ -3,8 +3,10 @@
 ghost use Rattle.std.specs.Prelude.{ℕ, ◌≡◌, ◌<◌, ◌≤◌, ◌+◌, ◌*◌, ◌^◌, All, IfOk, OnOk, length, flat_map, slice_index, slice_index_or, ◌++◌};
 ghost use Rattle.std.specs.List.{AllZip};
 ghost use Rattle.octant_code.specs.declared.limits.TheConstants.{LEVELS, MOST_BODIES};
+ghost use Rattle.bh_model.specs.Plans.{HasWorkers};
 ghost use Rattle.space_split.specs.Ranges.{IsRange, codes_of, division_of, octant_count};
 
+use crate::codes::least_piece;
 use crate::cube::Cube;
 use octant_code::{LEVELS, OutOfMemory};
 use rayon::prelude::*;
@@ -21,13 +23,15 @@ pub fn divide<R: Threads + Sync>(
     cubes: &[Cube],
     most: u32,
     level: u32,
+    workers: u32,
 ) -> Result<Vec<Cube>, OutOfMemory>
     requires deep { level < LEVELS }
     requires few { length codes.now ≤ MOST_BODIES }
+    requires workers { HasWorkers workers }
     requires cubes { All (IsRange codes.now most level) cubes.now }
     ensures { IfOk result (λ v. v.items ≡ flat_map (division_of codes.now most level) cubes.now) }
 {
-    let counts = count_all(rt, alloc, codes, cubes, most, level)?;
+    let counts = count_all(rt, alloc, codes, cubes, most, level, workers)?;
     let mut next: Vec<Cube> = Vec::with_capacity(alloc, cubes.len())?;
     for (i, cube) in cubes.iter().enumerate() {
         push_division(codes, *cube, &counts[i], most, level, &mut next)?;
@@ -43,15 +47,17 @@ fn count_all<R: Threads + Sync>(
     cubes: &[Cube],
     most: u32,
     level: u32,
+    workers: u32,
 ) -> Result<Vec<[u32; 8]>, OutOfMemory>
     requires deep { level < LEVELS }
     requires few { length codes.now ≤ MOST_BODIES }
+    requires workers { HasWorkers workers }
     requires cubes { All (IsRange codes.now most level) cubes.now }
     ensures { IfOk result (λ v. AllZip (λ cube counts. most < cube.count → (k : ℕ) → k < 8 → slice_index counts k ≡ octant_count (codes_of codes.now cube) level k) cubes.now v.items) }
 {
     let counts: Vec<[u32; 8]> = cubes
         .par_iter()
-        .with_min_len(1)
+        .with_min_len(least_piece(cubes.len(), workers))
         .map(
             |cube: &Cube| -> [u32; 8]
                 requires { (level < LEVELS) × (length codes.now ≤ MOST_BODIES) × IsRange codes.now most level cube.now }

@@ -8,6 +8,7 @@ mod builder;
 mod codes;
 mod count;
 mod cube;
+mod interleave;
 mod shares;
 mod split;
 #[cfg(test)]

@@ -34,9 +34,9 @@ pub fn pieces<R: Threads + Sync>(
     ensures { IfOk result (λ v. v.items ≡ pieces (site_at points.now) workers (numbers (length points.now))) }
 {
     let count = points.len();
-    let bodies = sorted_bodies(rt, alloc, points)?;
+    let bodies = sorted_bodies(rt, alloc, points, workers)?;
     let codes = codes_alone(alloc, &bodies)?;
-    let cubes = undivided_cubes(rt, alloc, &codes, piece_limit(count, workers))?;
+    let cubes = undivided_cubes(rt, alloc, &codes, piece_limit(count, workers), workers)?;
     deal(alloc, &cubes, count, workers)
 }
 
@@ -54,7 +54,9 @@ pub fn undivided_cubes<R: Threads + Sync>(
     alloc: Global,
     codes: &[u64],
     most: u32,
+    workers: u32,
 ) -> Result<Vec<Cube>, OutOfMemory>
+    requires workers { HasWorkers workers }
     requires few { length codes.now ≤ MOST_BODIES }
     requires rule { AreCodes codes.now }
     ensures cubes { IfOk result (λ v. map pair_of v.items ≡ cubes_from octant_of_code most 21 0 1 codes.now) }
@@ -66,7 +68,7 @@ pub fn undivided_cubes<R: Threads + Sync>(
         if are_small(&cubes, most) {
             return Ok(cubes);
         }
-        cubes = divide(rt, alloc, codes, &cubes, most, level)?;
+        cubes = divide(rt, alloc, codes, &cubes, most, level, workers)?;
     }
     Ok(cubes)
 }

@@ -1,26 +1,14 @@
-use Rattle.std.proofs.Common.{◌≡◌, ◌-◌, ◌<◌, ◌∙◌, ap, arith, length, map}
-use Rattle.std.specs.List.{range_with_len}
-use Rattle.std.proofs.lemmas.Slice.Zip.{AllZip-map}
-use Rattle.rayon.specs.Numbers.{nat_range}
-use Rattle.rayon.proofs.ToStd.{nat_range-All}
+use Rattle.std.proofs.Common.{◌∙◌, ap}
+use Rattle.rayon.proofs.ToStd.{slice-map}
 use Rattle.octant_code.specs.Points.{site_at}
+use Rattle.octree.specs.Ranks.{body_of_rank}
 use Rattle.space_split.specs.Sorted.{coded_of}
-use Rattle.space_split.proofs.Pushes.{row_is_numbers}
 use Rattle.space_split.proofs.codes.coded_bodies.Goals as goal
-
-pub collect-requires-clause-ready : goal.collect-requires-clause-ready
-collect-requires-clause-ready g c κs h =
-    let ends = c.into_par_iter.ensures in
-    let inside = nat_range-All (λ i. i < length c.args.points.now) 0 (length c.args.points.now) (λ i low high. high) in
-    rw (c.map.ensures.base, c.map.ensures.f, ends.0, ends.1, c.len.ensures.value) (λ k d lt. (inside k d lt, λ y p. tt))
 
 pub returns : goal.returns
 returns g c =
-    let ends = c.into_par_iter.ensures in
-    let n = length c.args.points.now in
-    let whole : n - 0 ≡ n = omega arith in
-    let code = coded_of (site_at c.args.points.now) in
     let h = c.in_ok-bodies.ensures in
-    let chain = rw (c.map.ensures.base, c.map.ensures.f) at h.1 in
-    let places = chain.1 ∙ (λ i. nat_range (ends.0 i) ((ends.1 ∙ c.len.ensures.value) i)) ∙ ap (range_with_len 0) whole in
-    h.2 ∙ AllZip-map code chain.0 h.0 chain.2 ∙ ap (map code) places ∙ row_is_numbers code n
+    let slice = ap (λ it. it.base.slice.now) c.map.ensures.base ∙ ap (λ it. it.slice.now) c.with_min_len.ensures.base ∙ c.par_iter.ensures in
+    let chain = rw c.map.ensures.f at h.1 in
+    h.2
+    ∙ slice-map chain.0 c.args.ranks.now (chain.1 ∙ slice) (λ r. coded_of (site_at c.args.points.now) (body_of_rank r)) h.0 chain.2
