@@ -11,6 +11,7 @@ mod work;
 mod workers;
 
 pub use numbers::{deal_in_turns, deal_to_owners, first_numbers};
+pub use order::rank_share;
 pub use passes::{SharedInsert, SharedPasses};
 pub use work::{InsertEach, Work};
 pub use workers::work_shares;

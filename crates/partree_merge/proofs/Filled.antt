@@ -1,10 +1,14 @@
 -- A share is inserted body by body into an octree that is empty.
 use Rattle.std.proofs.Common.{ℕ, ◌≡◌, ◌+◌, ◌<◌, ◌↔◌, ◌++◌, refl, sym, ◌∙◌, ap, subst, inl, inr, arith, List, [], ◌∷◌, length, get_or, take, drop}
+use Rattle.std.proofs.Common.{All}
+use Rattle.std.proofs.lemmas.List.Elements.{All-cons, All-nil}
 use Rattle.std.proofs.lemmas.List.{drop_more, take_all, take-append-drop, take_more}
 use Rattle.octant_code.specs.Space.{Site, IsUnder}
 use Rattle.octant_code.proofs.Keys.{key-zero}
 use Rattle.bh_model.specs.Bodies.{IsIn, NoneTwice}
 use Rattle.bh_model.proofs.Lists.{in_append, in_left, in_right, once_apart}
+use Rattle.tree_passes.specs.Counting.{times}
+use Rattle.tree_passes.proofs.Laws.{in_times, once_times, times_in, times_once}
 use Rattle.tree_rule.specs.Words.{at_of, body_word, HasBody}
 use Rattle.octree.specs.Stored.{IsCanonical, IsInserted, root_word, Stored}
 use Rattle.octree.proofs.Laws.{empty_canonical, reached_blank}
@@ -65,3 +69,20 @@ filled_all sites share before own i h all x =
 -- every point lies in the whole cube
 pub under_whole : (s : Site) (base : ℕ) → base ≡ 1 → IsUnder base s
 under_whole s base e = (0, omega arith, e ∙ sym (key-zero s))
+
+-- A list that has each body as often as a share has the bodies of the share, each once where the share has none twice.
+module _ (order share : List ℕ) (same : (x : ℕ) → times x order ≡ times x share) where
+  pub in_order : (x : ℕ) → IsIn order x ↔ IsIn share x
+  in_order x =
+      let e = same x in (
+        (λ i. let a = in_times x order i in times_in x share (omega arith)),
+        (λ i. let a = in_times x share i in times_in x order (omega arith)),
+      )
+
+  pub once_in_order : NoneTwice share → NoneTwice order
+  once_in_order once = times_once order (λ x. let e = same x in let o = once_times share once x in omega arith)
+
+-- each member of a list is below a number
+pub all_below : (share : List ℕ) (n : ℕ) → ((x : ℕ) → IsIn share x → x < n) → All (λ m. m < n) share
+all_below [] n h = All-nil (λ m. m < n)
+all_below (m ∷ ms) n h = All-cons (λ k. k < n) m ms (h m (inl refl)) (all_below ms n (λ x i. h x (inr i)))

@@ -74,15 +74,18 @@ pub fn work<L: Ledger, G: Gate>(
     ensures few_steps { HasAllBodies pass.old tree.now.opening → steps.new ≤ steps.old + 3 }
 {
     let at = AtGate { gate, worker };
-    work_at(tree, pass, points, share, own, &at, steps);
+    at.pass(GatePoint::Start);
+    work_at(tree, pass, points, share, share, own, &at, steps);
 }
 
-/// The work of one worker, at its gate.
+/// The work of one worker that has passed its gate at `Start`. Its octree is built in the given order of
+/// the share's bodies.
 pub(crate) fn work_at<L: Ledger, P: Passing>(
     tree: &FreeTree,
     pass: &mut FreePass,
     points: &Points,
     share: &[u32],
+    sequence: &[u32],
     own: &mut Octree,
     gate: &P,
     steps: &mut Steps<L>,
@@ -94,6 +97,7 @@ pub(crate) fn work_at<L: Ledger, P: Passing>(
     requires base { own.old.base ≡ 1 }
     requires empty { root_word own.old ≡ 0 }
     requires spare { CELLS_OF_ONE * length share.now ≤ spare_of own.old }
+    requires same { (x : ℕ) → times x sequence.now ≡ times x share.now }
     ensures pass { pass.new ≡ record pass.old { todo = pass.new.todo; done = pass.new.done; changes = pass.new.changes; loads = pass.new.loads; last = pass.new.last } }
     ensures todo { (x : ℕ) → times x pass.new.todo + times x share.now ≡ times x pass.old.todo }
     ensures done { (x : ℕ) → times x pass.new.done ≡ times x share.now + times x pass.old.done }
@@ -105,8 +109,7 @@ pub(crate) fn work_at<L: Ledger, P: Passing>(
     ensures few_steps { HasAllBodies pass.old tree.now.opening → steps.new ≤ steps.old + 3 }
 {
     pass.todo_in_points();
-    gate.pass(GatePoint::Start);
-    fill(own, points, share);
+    fill(own, points, share, sequence);
     tree.merge(pass, own, steps);
     if !share.is_empty() {
         gate.pass(GatePoint::AfterFirst);
