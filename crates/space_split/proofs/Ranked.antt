@@ -1,31 +1,27 @@
 -- Bodies by their ranks.
-use Rattle.std.proofs.Common.{ℕ, ◌<◌, ◌≡◌, ◌∙◌, refl, sym, ap, subst, All, List, [], ◌∷◌, map, length, get_or, arith}
-use Rattle.std.specs.List.{AllZip, range_with_len}
+use Rattle.std.proofs.Common.{ℕ, ◌+◌, ◌*◌, ◌%◌, ◌<◌, ◌≡◌, ◌∙◌, ◌++◌, suc, refl, sym, ap, subst, All, List, [], ◌∷◌, map, length, get_or, arith}
 use Rattle.std.specs.List.Sorted.{IsPermutation}
-use Rattle.std.proofs.lemmas.List.{get_or-map, length-map}
+use Rattle.std.proofs.lemmas.List.{get_or-map, length-map, map_push}
 use Rattle.std.proofs.lemmas.List.Sorted.{All-permutation, IsPermutation-map}
-use Rattle.octant_code.specs.Space.{Site}
+use Rattle.octant_code.specs.Space.{Site, key_of}
 use Rattle.octree.specs.Ranks.{body_of_rank}
 use Rattle.bh_model.specs.Bodies.{numbers}
+use Rattle.bh_model.proofs.Lists.{numbers_more}
 use Rattle.bh_model.proofs.Standing.{length_numbers, number_at_place}
-use Rattle.space_split.specs.Sorted.{coded_of}
+use Rattle.space_split.specs.Sorted.{coded_in, coded_of}
 use Rattle.space_split.specs.declared.codes.Coded.{Coded}
-use Rattle.space_split.proofs.Pushes.{row_is_numbers}
 
--- ranks whose bodies are those of a list, in turn
-pub told_all : (ns ranks : List ℕ) → AllZip (λ n r. body_of_rank r ≡ n) ns ranks → map body_of_rank ranks ≡ ns
-told_all [] [] z = refl
-told_all [] (r ∷ rs) z = absurd z
-told_all (n ∷ ns) [] z = absurd z
-told_all (n ∷ ns) (r ∷ rs) z = ap (λ y. y ∷ map body_of_rank rs) z.0 ∙ ap (λ y. n ∷ y) (told_all ns rs z.1)
+-- no rank is that of no body
+pub rank_none : map body_of_rank [] ≡ numbers 0
+unfolding numbers
+rank_none = refl
 
-alone : (ns : List ℕ) → map (λ n. n) ns ≡ ns
-alone [] = refl
-alone (n ∷ ns) = ap (λ y. n ∷ y) (alone ns)
-
--- a row of numbers from 0 on
-pub row_of_all : (n : ℕ) → range_with_len 0 n ≡ numbers n
-row_of_all n = sym (alone (range_with_len 0 n)) ∙ row_is_numbers (λ k. k) n ∙ alone (numbers n)
+-- one rank more
+pub rank_more : (ranks : List ℕ) (q n : ℕ) → n < 65536 → map body_of_rank ranks ≡ numbers n → map body_of_rank (ranks ++ ((q * 65536 + n) ∷ [])) ≡ numbers (n + 1)
+rank_more ranks q n few told =
+    let own : (q * 65536 + n) % 65536 ≡ n = omega arith in
+    map_push body_of_rank ranks (q * 65536 + n) ∙ ap (λ y. y ++ (body_of_rank (q * 65536 + n) ∷ [])) told ∙ ap (λ y. numbers n ++ (y ∷ [])) own
+    ∙ sym (numbers_more n)
 
 -- the ranks of all bodies, in another order, are those of bodies
 module _ (n : ℕ) (ranks moved : List ℕ) (told : map body_of_rank ranks ≡ numbers n) (same : IsPermutation ranks moved) where
@@ -49,3 +45,16 @@ module _ (n : ℕ) (ranks moved : List ℕ) (told : map body_of_rank ranks ≡ n
   coded_moved site =
       subst (λ (y : List Coded). IsPermutation y (map (λ r. coded_of site (body_of_rank r)) moved)) (through site ranks ∙ ap (map (coded_of site)) told)
       (IsPermutation-map (λ r. coded_of site (body_of_rank r)) ranks moved same)
+
+  -- and their codes in a list are those of their points
+  pub coded_there : (site : ℕ → Site) (codes rs : List ℕ) → codes ≡ map (λ k. key_of (site k) 21) (numbers n) → All (λ r. body_of_rank r < n) rs
+      → map (λ r. coded_in codes (body_of_rank r)) rs ≡ map (λ r. coded_of site (body_of_rank r)) rs
+  coded_there site codes [] are known = refl
+  coded_there site codes (r ∷ rs) are known =
+      let b = body_of_rank r in
+      let less : b < n = known 0 r (omega arith) in
+      let code : get_or codes b 0 ≡ key_of (site b) 21 =
+      ap (λ y. get_or y b 0) are ∙ get_or-map (λ k. key_of (site k) 21) (numbers n) b 0 0 (omega (arith, less, length_numbers n))
+      ∙ ap (λ k. key_of (site k) 21) (number_at_place n b 0 less) in
+      ap (λ c. record { code = c; body = b } ∷ map (λ q. coded_in codes (body_of_rank q)) rs) code
+      ∙ ap (λ y. coded_of site b ∷ y) (coded_there site codes rs are (λ k d l. known (suc k) d (omega arith)))

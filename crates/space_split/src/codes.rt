@@ -1,21 +1,25 @@
 //! The bodies in the order of their points' codes.
 
-ghost use Rattle.std.specs.Prelude.{◌≡◌, ◌<◌, All, IfOk, length, map};
+ghost use Rattle.std.specs.Prelude.{◌≡◌, ◌<◌, ◌≤◌, ◌/◌, All, IfOk, length, map, max};
 ghost use Rattle.std.specs.List.Sorted.{IsPermutation};
 ghost use Rattle.octant_code.specs.Points.{site_at};
 ghost use Rattle.octant_code.specs.Space.{key_of};
+ghost use Rattle.octant_code.specs.declared.limits.TheConstants.{MOST_BODIES};
 ghost use Rattle.bh_model.specs.Bodies.{numbers};
 ghost use Rattle.bh_model.specs.Plans.{HasWorkers};
 ghost use Rattle.octree.specs.Ranks.{body_of_rank};
-ghost use Rattle.space_split.specs.Sorted.{AreSorted, coded_of};
+ghost use Rattle.space_split.specs.Sorted.{AreSorted, coded_in};
 ghost use Rattle.space_split.specs.Spreads.{AreSpreads};
 
 use crate::interleave::{code_of, spreads};
-use octant_code::{OutOfMemory, Points};
-use octree::{body_of, rank_of};
+use octant_code::{MOST_BODIES, OutOfMemory, Points};
+use octree::body_of;
 use rayon::prelude::*;
 use std::alloc::Global;
 use std::thread::Threads;
+
+/// How many numbers of bodies there are.
+const BODIES: u64 = MOST_BODIES as u64;
 
 /// A body with its point's code, which is the key of the point's cube at the last level.
 #[derive(Clone, Copy, Debug, PartialEq, Eq)]
@@ -36,9 +40,11 @@ pub fn sorted_bodies<R: Threads + Sync>(
     requires { HasWorkers workers }
     ensures { IfOk result (λ v. AreSorted points.now v.items) }
 {
-    let mut ranks = ranks_of(rt, alloc, points, workers)?;
+    let _few = points.len();
+    let codes = codes_of(rt, alloc, points, workers)?;
+    let mut ranks = ranks_of(alloc, &codes)?;
     sort_ranks(rt, ranks.as_mut_slice(), workers);
-    let mut bodies = coded_bodies(rt, alloc, points, &ranks, workers)?;
+    let mut bodies = coded_bodies(rt, alloc, &codes, &ranks, workers)?;
     bodies.sort_unstable_by_key(|b: &Coded| b.code);
     Ok(bodies)
 }
@@ -46,33 +52,44 @@ pub fn sorted_bodies<R: Threads + Sync>(
 /// How many items of so many a thread works on at least, where there is a thread for each worker.
 pub fn least_piece(count: usize, workers: u32) -> usize
     requires { HasWorkers workers }
+    ensures { result ≡ max 1 (count / workers) }
 {
     (count / workers as usize).max(1)
 }
 
-/// The ranks of all bodies, by their numbers.
-fn ranks_of<R: Threads + Sync>(
+/// The codes of all points, by their numbers.
+fn codes_of<R: Threads + Sync>(
     rt: &R,
     alloc: Global,
     points: &Points,
     workers: u32,
 ) -> Result<Vec<u64>, OutOfMemory>
     requires { HasWorkers workers }
-    ensures { IfOk result (λ v. map body_of_rank v.items ≡ numbers (length points.now)) }
+    ensures { IfOk result (λ v. v.items ≡ map (λ n. key_of (site_at points.now n) 21) (numbers (length points.now))) }
 {
-    let ranks: Vec<u64> = (0..points.len())
+    let spreads = spreads();
+    let codes: Vec<u64> = (0..points.len())
         .into_par_iter()
         .with_min_len(least_piece(points.len() as usize, workers))
         .map(
             |n: u32| -> u64
-                requires { n < length points.now }
-                ensures { body_of_rank result ≡ n }
-            {
-                let _few = points.len();
-                rank_of(points.at(n), n)
-            },
+                requires { (n < length points.now) × AreSpreads spreads }
+                ensures { result ≡ key_of (site_at points.entry.now n) 21 }
+            { code_of(&spreads, points.at(n)) },
         )
         .collect(rt, alloc)?;
+    Ok(codes)
+}
+
+/// The ranks of bodies, by their numbers: the upper 48 bits of the code, and the number.
+fn ranks_of(alloc: Global, codes: &[u64]) -> Result<Vec<u64>, OutOfMemory>
+    requires { length codes.now ≤ MOST_BODIES }
+    ensures { IfOk result (λ v. map body_of_rank v.items ≡ numbers (length codes.now)) }
+{
+    let mut ranks: Vec<u64> = Vec::with_capacity(alloc, codes.len())?;
+    for n in 0..codes.len() {
+        ranks.push(codes[n] / BODIES * BODIES + n as u64)?;
+    }
     Ok(ranks)
 }
 
@@ -92,26 +109,25 @@ fn sort_ranks<R: Threads + Sync>(rt: &R, ranks: &mut [u64], workers: u32)
 fn coded_bodies<R: Threads + Sync>(
     rt: &R,
     alloc: Global,
-    points: &Points,
+    codes: &[u64],
     ranks: &[u64],
     workers: u32,
 ) -> Result<Vec<Coded>, OutOfMemory>
     requires workers { HasWorkers workers }
-    requires known { All (λ r. body_of_rank r < length points.now) ranks.now }
-    ensures { IfOk result (λ v. v.items ≡ map (λ r. coded_of (site_at points.now) (body_of_rank r)) ranks.now) }
+    requires known { All (λ r. body_of_rank r < length codes.now) ranks.now }
+    ensures { IfOk result (λ v. v.items ≡ map (λ r. coded_in codes.now (body_of_rank r)) ranks.now) }
 {
-    let spreads = spreads();
     let bodies: Vec<Coded> = ranks
         .par_iter()
         .with_min_len(least_piece(ranks.len(), workers))
         .map(
             |rank: &u64| -> Coded
-                requires { (body_of_rank rank.now < length points.now) × AreSpreads spreads }
-                ensures { result ≡ coded_of (site_at points.entry.now) (body_of_rank rank.now) }
+                requires { body_of_rank rank.now < length codes.now }
+                ensures { result ≡ coded_in codes.entry.now (body_of_rank rank.now) }
             {
                 let body = body_of(*rank);
                 Coded {
-                    code: code_of(&spreads, points.at(body)),
+                    code: codes[body as usize],
                     body,
                 }
             },
