@@ -29,8 +29,8 @@ pub struct Coded {
 }
 
 /// All bodies with their codes, the least code first, so that the bodies of each cube stand side by
-/// side. Ranks, of one word each, bring them into that order but for those whose points lie in one
-/// cube of level 15; only where such bodies stand the other way round does the last sort move any.
+/// side. Ranks, of one word each, bring them into that order but for those whose codes differ in their
+/// last bits alone; only where such bodies stand the other way round does the last sort move any.
 pub fn sorted_bodies<R: Threads + Sync>(
     rt: &R,
     alloc: Global,
@@ -81,14 +81,27 @@ fn codes_of<R: Threads + Sync>(
     Ok(codes)
 }
 
-/// The ranks of bodies, by their numbers: the upper 48 bits of the code, and the number.
+/// How many leading bits all codes have in common, at most 63. Nothing but time depends on it.
+fn common_bits(codes: &[u64]) -> u32
+    ensures { result < 64 }
+{
+    let mut differ = 0u64;
+    for n in 0..codes.len() {
+        differ |= codes[n] ^ codes[0];
+    }
+    differ.leading_zeros().min(63)
+}
+
+/// The ranks of bodies, by their numbers: 48 bits of the code behind those that all codes have in
+/// common, and the number.
 fn ranks_of(alloc: Global, codes: &[u64]) -> Result<Vec<u64>, OutOfMemory>
     requires { length codes.now ≤ MOST_BODIES }
     ensures { IfOk result (λ v. map body_of_rank v.items ≡ numbers (length codes.now)) }
 {
     let mut ranks: Vec<u64> = Vec::with_capacity(alloc, codes.len())?;
+    let common = common_bits(codes);
     for n in 0..codes.len() {
-        ranks.push(codes[n] / BODIES * BODIES + n as u64)?;
+        ranks.push((codes[n] << common) / BODIES * BODIES + n as u64)?;
     }
     Ok(ranks)
 }

@@ -1,4 +1,4 @@
-use Rattle.std.proofs.Common.{◌/◌, ◌∙◌, ap, arith, get_or, map}
+use Rattle.std.proofs.Common.{◌∙◌, ap, arith, map}
 use Rattle.octree.specs.Ranks.{body_of_rank}
 use Rattle.bh_model.specs.Bodies.{numbers}
 use Rattle.space_split.proofs.Ranked.{rank_more, rank_none}
@@ -10,7 +10,7 @@ loop-n-init c = ap (map body_of_rank) c.in_ok-ranks.ensures.items ∙ rank_none
 pub loop-n-preserved : goal.loop-n-preserved
 loop-n-preserved c =
     ap (map body_of_rank) c.in_ok-push.ensures.items
-    ∙ rank_more c.loop-n.ranks.items (get_or c.args.codes.now c.loop-n.n 0 / 65536) c.loop-n.n (omega (arith, c.loop-n-test.true, c.requires))
+    ∙ rank_more c.loop-n.ranks.items _ c.loop-n.n (omega (arith, c.loop-n-test.true, c.requires))
     c.loop-n.invariant
 
 pub returns : goal.returns
