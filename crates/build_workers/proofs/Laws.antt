@@ -13,7 +13,7 @@ use Rattle.shared_tree.specs.Seen.{entrusted, PassState, SharedTree}
 use Rattle.build_workers.specs.Shares.{owned, times_in_all, AreShares}
 use Rattle.build_workers.specs.Working.{one_for_each, HasPutShares, IsSumFor}
 use Rattle.build_workers.proofs.Sharing.{each_of_numbers, shares_part}
-pub use Rattle.build_workers.proofs.Sharing.{part_of_all, shares_within}
+pub use Rattle.build_workers.proofs.Sharing.{part_of_all, parts_within, shares_within}
 
 -- which is the worker's, or is not
 module _ (own : ℕ → ℕ) (n w : ℕ) where
@@ -118,14 +118,17 @@ module _ (count : ℕ) (t : SharedTree) (may : List ℕ → ℕ → Type 0) (sha
   pub put_count : length p.done ≡ count
   put_count = length-same p.done (numbers count) put_each ∙ length_numbers count
 
--- where each body took one publication, there were as many as bodies
-pub put_changes : (count : ℕ) (t : SharedTree) (shares : List (List ℕ)) (p : PassState) → AreShares count shares
-    → HasPutShares t one_for_each shares p → p.changes ≡ count
-put_changes count t shares p are put =
+-- where each body took one publication, there were as many as bodies were put in
+pub put_ones : (t : SharedTree) (shares : List (List ℕ)) (p : PassState) → HasPutShares t one_for_each shares p → p.changes ≡ length p.done
+put_ones t shares p put =
     let whole = all_of (λ (s : List ℕ). s) shares in
     let size : length whole ≡ length p.done =
     length-same whole p.done (λ x. times-all_of x (λ (l : List ℕ). l) shares ∙ sym (put.done x)) in
     let total = length-all_of (λ (s : List ℕ). s) shares in
     let sum = sum_of_ones shares p.changes put.changes in
-    let all = put_count count t one_for_each shares p are put in
     omega arith
+
+-- and as many as there are numbers below the count, where the shares hold these
+pub put_changes : (count : ℕ) (t : SharedTree) (shares : List (List ℕ)) (p : PassState) → AreShares count shares
+    → HasPutShares t one_for_each shares p → p.changes ≡ count
+put_changes count t shares p are put = put_ones t shares p put ∙ put_count count t one_for_each shares p are put

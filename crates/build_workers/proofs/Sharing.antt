@@ -36,15 +36,20 @@ module _ {S : Type 0} (items : S → List ℕ) where
   part_of_all x zero d (s ∷ ss) less = omega arith
   part_of_all x (suc k) d (s ∷ ss) less = let rest = part_of_all x k d ss (omega arith) in omega arith
 
-  -- and none but those below the count
-  pub shares_within : (count : ℕ) (shares : List S) → AreShares count (map items shares) → All (λ s. All (λ n. n < count) (items s)) shares
-  shares_within count shares are = λ k d less i e inside.
+  -- where no share has a number from a count on, all members are below it
+  pub parts_within : (count : ℕ) (shares : List S) → ((n : ℕ) → count ≤ n → times_in_all n (map items shares) ≡ 0)
+      → All (λ s. All (λ n. n < count) (items s)) shares
+  parts_within count shares no_other = λ k d less i e inside.
       let n = get_or (items (get_or shares k d)) i e in
       elim (cases_lt n count) [
         | inl l ↦ l
         | inr l ↦
             let some = stands_at (items (get_or shares k d)) i e inside in
             let part = part_of_all n k d shares less in
-            let none = are.no_other n (omega arith) in
+            let none = no_other n (omega arith) in
             absurd (omega (arith, some, part, none))
       ]
+
+  -- so it is for shares of the numbers below the count
+  pub shares_within : (count : ℕ) (shares : List S) → AreShares count (map items shares) → All (λ s. All (λ n. n < count) (items s)) shares
+  shares_within count shares are = parts_within count shares are.no_other

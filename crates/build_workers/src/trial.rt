@@ -39,6 +39,27 @@ fn points_of(alloc: Global, count: u32, all: bool) -> Result<Arc<Points>, Fail> 
         };
         list.push(point)?;
     }
+    apart(alloc, list)
+}
+
+/// The points at these places.
+///
+/// # Errors
+///
+/// For want of memory, where a place is past the cube, or where two are one.
+pub fn points_at(alloc: Global, places: &[[u32; 3]]) -> Result<Arc<Points>, Fail> {
+    let mut list = Vec::new(alloc);
+    for place in places {
+        let Some(point) = Point::new(place[0], place[1], place[2]) else {
+            return Err(Fail::from("a point past the cube"));
+        };
+        list.push(point)?;
+    }
+    apart(alloc, list)
+}
+
+/// The points of a list, no two of which are one.
+fn apart(alloc: Global, list: Vec<Point>) -> Result<Arc<Points>, Fail> {
     match Points::test(alloc, &list)? {
         Distinct::Yes => Ok(Arc::new(alloc, Points::of(list))?),
         _ => Err(Fail::from("two points are one")),

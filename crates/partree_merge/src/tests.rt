@@ -7,10 +7,10 @@ ghost use Rattle.octree.specs.Stored.{IsOctreeOf};
 
 use crate::build;
 use build_gate::{Gate, MeetGate, OpenGate};
-use build_workers::trial::{are_one, scattered};
+use build_workers::trial::{are_one, points_at, scattered};
 use build_workers::{deal_in_turns, deal_to_owners};
 use free_tree::FreeYard;
-use octant_code::{Distinct, OutOfMemory, Point, Points};
+use octant_code::{OutOfMemory, Points};
 use octree::Octree;
 use std::alloc::Global;
 use std::process::Abort;
@@ -51,21 +51,6 @@ fn builds_agree<R: Threads + Sync + Abort>(
         assert!(rt; are_one(alloc, &tree, &wanted)?);
     }
     Ok(())
-}
-
-/// These points.
-pub(crate) fn points_at(alloc: Global, places: &[[u32; 3]]) -> Result<Arc<Points>, Fail> {
-    let mut list = Vec::new(alloc);
-    for place in places {
-        let Some(point) = Point::new(place[0], place[1], place[2]) else {
-            return Err(Fail::from("a point past the cube"));
-        };
-        list.push(point)?;
-    }
-    match Points::test(alloc, &list)? {
-        Distinct::Yes => Ok(Arc::new(alloc, Points::of(list))?),
-        _ => Err(Fail::from("two points are one")),
-    }
 }
 
 /// Workers build the octree of points, each of its own bodies. Answers how often they published, which
