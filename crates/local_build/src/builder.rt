@@ -6,9 +6,9 @@ ghost use Rattle.octree.specs.Stored.{IsOctreeOf};
 ghost use Rattle.shared_tree.specs.Seen.{risen};
 ghost use Rattle.build_workers.specs.Shares.{AreShares};
 
-use crate::uncounted::Uncounted;
+use crate::insertion::insert_shares;
 use build_gate::Gate;
-use build_workers::{InsertEach, first_numbers, work_shares};
+use build_workers::first_numbers;
 use free_tree::FreeYard;
 use octant_code::{OutOfMemory, Points};
 use octree::Octree;
@@ -39,13 +39,9 @@ pub fn build<R: Threads + Sync, G: Gate>(
     ensures changes { OnOk result (yard.new.changes ≡ risen yard.old.changes (length (arc_value points.now))) }
     ensures refused { OnErr result (yard.new ≡ yard.old) }
 {
-    let todo = first_numbers(alloc, points.len())?;
+    let bodies = first_numbers(alloc, points.len())?;
     let start = Octree::empty(alloc, 0)?;
-    let (tree, mut pass) = yard.open(alloc, points, start, &todo)?;
-    let shared = Uncounted { tree: &tree };
-    let work = InsertEach { points };
-    work_shares(rt, alloc, &shared, &mut pass, shares, &work, gate)?;
-    let octree = yard.close(tree, pass);
+    let octree = insert_shares(rt, alloc, yard, points, start, &bodies, shares, gate)?;
     octree.canonical_tree(points);
     let _whole = octree.whole();
     Ok(octree)

@@ -3,6 +3,7 @@
 #![tactic(auto)]
 
 mod builder;
+mod insertion;
 #[cfg(test)]
 mod steps;
 #[cfg(test)]
@@ -10,3 +11,4 @@ mod tests;
 mod uncounted;
 
 pub use builder::build;
+pub use insertion::insert_shares;
