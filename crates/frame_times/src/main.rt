@@ -2,14 +2,21 @@
 //!
 //! Usage: frame_times NUM DEN ROUNDS < SCENE
 //!
-//! It reads a scene and makes its frame with the opening angle NUM / DEN so many times, on one worker,
-//! writes the tree's text each time to standard output, and tells on standard error the least time of
-//! each phase in nanoseconds, and how many terms the pulls have. The time of the pulls is that of a
-//! frame without its moments and its zones: laying the flat table and the sums are in it. With other
-//! words it tells nothing.
+//! It reads a scene and makes its first two frames with the opening angle NUM / DEN so many times, by one
+//! worker and by four in turns, writes the tree's text each time to standard output, and tells on
+//! standard error the least time of each phase in nanoseconds, and how many terms the pulls have. The
+//! phases are those of one worker, and the time of the pulls is that of the first frame without its
+//! moments and its zones: laying the flat table and the sums are in it. Of each of the two frames come
+//! with each number of workers its time (`frame`), the time of the worker who walked the longest
+//! (`walk`), and that over the mean of all workers, in thousandths (`balance`). In the second frame, which
+//! is `later`, zones are cut by the terms of the first one. With other words it tells nothing.
 #![tactic(auto)]
 
-ghost use Rattle.std.specs.Prelude.{◌≡◌, All, IfOk, length};
+mod gate;
+
+ghost use Rattle.std.specs.Prelude.{◌≡◌, All, IfOk, OnOk, length};
+ghost use Rattle.bh_model.specs.Plans.{HasWorkers};
+ghost use Rattle.frame_core.specs.Engines.{WithFrame, WithTree};
 ghost use Rattle.mass_moments.specs.Kept.{IsCost};
 
 use bh_model::{Builder, Law, Plan};
@@ -17,6 +24,7 @@ use bh_outside::{Input, Sink, StdSink, StdSource, read_all};
 use build_gate::OpenGate;
 use costzones::zones;
 use frame_core::Engine;
+use gate::NotingGate;
 use locked_tree::LockedYard;
 use mass_moments::moments;
 use octant_code::OutOfMemory;
@@ -29,7 +37,63 @@ use std::sync::Wait;
 use std::thread::Threads;
 use std::time::Instant;
 
-/// The least times of the phases so far, in nanoseconds, and the terms of a frame.
+/// The times of a frame, in nanoseconds, and its balance, in thousandths.
+#[derive(Clone, Copy)]
+struct FrameTimes {
+    whole: u128,
+    walk: u64,
+    balance: u64,
+    met: u64,
+}
+
+impl FrameTimes {
+    /// More than any frame takes.
+    fn longest() -> FrameTimes {
+        FrameTimes {
+            whole: u128::MAX,
+            walk: u64::MAX,
+            balance: u64::MAX,
+            met: 0,
+        }
+    }
+
+    /// The least of both, figure by figure.
+    fn least(self, other: FrameTimes) -> FrameTimes {
+        FrameTimes {
+            whole: self.whole.min(other.whole),
+            walk: self.walk.min(other.walk),
+            balance: self.balance.min(other.balance),
+            met: other.met,
+        }
+    }
+}
+
+/// The times of the first two frames of a run.
+#[derive(Clone, Copy)]
+struct RunTimes {
+    first: FrameTimes,
+    later: FrameTimes,
+}
+
+impl RunTimes {
+    /// More than any run takes.
+    fn longest() -> RunTimes {
+        RunTimes {
+            first: FrameTimes::longest(),
+            later: FrameTimes::longest(),
+        }
+    }
+
+    /// The least of both, figure by figure.
+    fn least(self, other: RunTimes) -> RunTimes {
+        RunTimes {
+            first: self.first.least(other.first),
+            later: self.later.least(other.later),
+        }
+    }
+}
+
+/// The least times of the phases so far, in nanoseconds, and those of frames by one worker and by four.
 #[derive(Clone, Copy)]
 struct Times {
     reading: u128,
@@ -38,8 +102,9 @@ struct Times {
     text: u128,
     moments: u128,
     zones: u128,
-    pulls: u128,
-    met: u64,
+    zones_of_four: u128,
+    one: RunTimes,
+    four: RunTimes,
 }
 
 impl Times {
@@ -52,8 +117,9 @@ impl Times {
             text: u128::MAX,
             moments: u128::MAX,
             zones: u128::MAX,
-            pulls: u128::MAX,
-            met: 0,
+            zones_of_four: u128::MAX,
+            one: RunTimes::longest(),
+            four: RunTimes::longest(),
         }
     }
 
@@ -66,9 +132,15 @@ impl Times {
             text: self.text.min(other.text),
             moments: self.moments.min(other.moments),
             zones: self.zones.min(other.zones),
-            pulls: self.pulls.min(other.pulls),
-            met: other.met,
+            zones_of_four: self.zones_of_four.min(other.zones_of_four),
+            one: self.one.least(other.one),
+            four: self.four.least(other.four),
         }
+    }
+
+    /// The time of a frame without its moments and its zones.
+    fn pulls(&self, frame: u128, zones: u128) -> u128 {
+        frame.saturating_sub(self.moments.saturating_add(zones))
     }
 }
 
@@ -113,27 +185,58 @@ fn time_parts<R: Clock, K: Sink>(
     let start = Instant::now(rt)?;
     let _zones = zones(alloc, &tree, &table, &costs, 1)?;
     times.zones = since(rt, start)?;
+    let start = Instant::now(rt)?;
+    let _zones_of_four = zones(alloc, &tree, &table, &costs, 4)?;
+    times.zones_of_four = since(rt, start)?;
     Ok(times)
 }
 
-/// Times the frame of a scene's bodies, and tells how many terms the pulls have.
-fn time_frame<R: Clock + Threads + Wait + Sync>(
+/// Times the frame of an engine, which so many workers make.
+fn time_frame<R: Clock + Threads + Sync>(
+    rt: &R,
+    workers: u32,
+    engine: &mut Engine,
+) -> anyhow::Result<FrameTimes>
+    requires { engine.old.stage ≡ WithTree }
+    ensures made { OnOk result (engine.new.stage ≡ WithFrame) }
+    ensures builder { OnOk result (engine.new.plan.builder ≡ engine.old.plan.builder) }
+{
+    let start = Instant::now(rt)?;
+    let gate = NotingGate::new(rt, start);
+    let frame = engine.frame(rt, &gate)?;
+    let whole = since(rt, start)?;
+    let thousandths = gate.greatest().saturating_mul(1000);
+    Ok(FrameTimes {
+        whole,
+        walk: gate.greatest(),
+        balance: thousandths.saturating_mul(u64::from(workers)) / gate.all().max(1),
+        met: frame.met,
+    })
+}
+
+/// Times the first two frames of a scene's bodies, with so many workers.
+fn time_run<R: Clock + Threads + Wait + Sync>(
     rt: &R,
     alloc: Global,
     law: Law,
+    workers: u32,
     bodies: Bodies,
-) -> anyhow::Result<(u128, u64)> {
+) -> anyhow::Result<RunTimes>
+    requires { HasWorkers workers }
+{
     let plan = Plan {
         builder: Builder::Orig,
-        workers: 1,
+        workers,
         law,
     };
     let mut engine = Engine::open(alloc, plan, bodies)?;
     let mut locked = LockedYard::new();
     engine.tree(rt, &mut locked, &OpenGate)?;
-    let start = Instant::now(rt)?;
-    let frame = engine.frame(rt, &OpenGate)?;
-    Ok((since(rt, start)?, frame.met))
+    let first = time_frame(rt, workers, &mut engine)?;
+    engine.drift()?;
+    engine.tree(rt, &mut locked, &OpenGate)?;
+    let later = time_frame(rt, workers, &mut engine)?;
+    Ok(RunTimes { first, later })
 }
 
 /// Times one round over a scene.
@@ -148,12 +251,13 @@ fn time_round<R: Clock + Threads + Wait + Sync, K: Sink>(
     let scene = read_scene(alloc, bytes)?;
     let reading = since(rt, start)?;
     let parts = time_parts(rt, alloc, &scene.bodies, sink)?;
-    let (frame, met) = time_frame(rt, alloc, law, scene.bodies)?;
-    let pulls = frame.saturating_sub(parts.moments.saturating_add(parts.zones));
+    let again = read_scene(alloc, bytes)?;
+    let one = time_run(rt, alloc, law, 1, scene.bodies)?;
+    let four = time_run(rt, alloc, law, 4, again.bodies)?;
     Ok(Times {
         reading,
-        pulls,
-        met,
+        one,
+        four,
         ..parts
     })
 }
@@ -198,6 +302,14 @@ fn asked(words: &[String]) -> Option<(Law, u32)> {
     Some((law, number_of(words, 2)?))
 }
 
+/// Tells the times of a frame, a line for each.
+fn tell_frame<R: Eprint>(rt: &R, name: &str, times: &FrameTimes) -> anyhow::Result<()> {
+    eprintln!(rt; "frame{name} {}", times.whole)?;
+    eprintln!(rt; "walk{name} {}", times.walk)?;
+    eprintln!(rt; "balance{name} {}", times.balance)?;
+    Ok(())
+}
+
 /// Tells the times, a line for each.
 fn tell<R: Eprint>(rt: &R, times: &Times) -> anyhow::Result<()> {
     let lines = [
@@ -207,13 +319,20 @@ fn tell<R: Eprint>(rt: &R, times: &Times) -> anyhow::Result<()> {
         ("text", times.text),
         ("moments", times.moments),
         ("zones", times.zones),
-        ("pulls", times.pulls),
-        ("met", u128::from(times.met)),
+        ("pulls", times.pulls(times.one.first.whole, times.zones)),
+        (
+            "pulls.4",
+            times.pulls(times.four.first.whole, times.zones_of_four),
+        ),
+        ("met", u128::from(times.one.first.met)),
     ];
     for (name, number) in lines {
         eprintln!(rt; "{name} {number}")?;
     }
-    Ok(())
+    tell_frame(rt, ".1", &times.one.first)?;
+    tell_frame(rt, ".4", &times.four.first)?;
+    tell_frame(rt, ".1.later", &times.one.later)?;
+    tell_frame(rt, ".4.later", &times.four.later)
 }
 
 fn main(rt: HostRuntime) -> anyhow::Result<()> {
