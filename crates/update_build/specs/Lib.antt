@@ -1,0 +1,5 @@
+pub mod Contracting
+pub mod Sweeping
+pub mod Moving
+pub mod Staying
+pub mod Updating
