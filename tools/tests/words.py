@@ -56,7 +56,7 @@ def value_of(text, values):
     return numbers[0] if len(numbers) == 1 else tuple(numbers)
 
 
-def options_of(words, served=lambda options: True):
+def options_of(words):
     """The options by their names without hyphens, with the command, or None where the words give none."""
     read = plain_form(words)
     if read is None or read[0] not in COMMANDS:
@@ -67,7 +67,7 @@ def options_of(words, served=lambda options: True):
         if value is None:
             return None
         options[name[2:].decode()] = value
-    return options if served(options) else None
+    return options
 
 
 def text_of(options, scene):

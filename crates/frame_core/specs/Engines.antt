@@ -2,13 +2,14 @@
 use Rattle.std.specs.Prelude.{ℕ, List, Option, None, Some, length, ⊤}
 use Rattle.bh_model.specs.Plans.{TreePlan}
 use Rattle.bh_model.specs.Zones.{first_costs}
+use Rattle.bh_model.specs.declared.update.UpdateCounts.{UpdateCounts}
 use Rattle.drift.specs.Motions.{first_motion}
 use Rattle.drift.specs.declared.body_motion.BodyMotion.{BodyMotion}
 use Rattle.mass_moments.specs.Kept.{cost_at}
 use Rattle.probe.specs.Figures.{FrameFigures}
 use Rattle.scene_file.specs.Bodies.{sites_of}
 use Rattle.scene_file.specs.declared.bodies.Body.{Body}
-use Rattle.frame_core.specs.Building.{MadeTree, Publications, told_pieces, tree_publishes}
+use Rattle.frame_core.specs.Building.{MadeTree, Publications, told_pieces, told_update, tree_publishes}
 use Rattle.frame_core.specs.Frames.{frame_figures}
 use Rattle.frame_core.specs.Shares.{first_shares}
 
@@ -61,13 +62,18 @@ opened plan bodies = record {
   stage = WithoutTree;
 }
 
--- the tree that a plan makes for bodies
-abbrev pub tree_for : TreePlan → List Body → MadeTree
-tree_for plan bodies = record { plan = plan; sites = sites_of bodies }
+-- the tree that a plan makes for bodies after the last tree, where there is one
+abbrev pub tree_for : TreePlan → Option MadeTree → List Body → MadeTree
+tree_for plan last bodies =
+    record { plan = plan; sites = sites_of bodies; update = told_update plan.builder last (sites_of bodies) }
+
+-- the engine once a tree was made for its points
+abbrev pub with_made : MadeTree → EngineState → EngineState
+with_made made e = record e { last = Some made; stage = WithTree }
 
 -- the engine once its points have a tree
 abbrev pub with_tree : EngineState → EngineState
-with_tree e = record e { last = Some (tree_for e.plan e.bodies); stage = WithTree }
+with_tree e = with_made (tree_for e.plan e.last e.bodies) e
 
 -- the engine once it has its frame
 abbrev pub with_frame : EngineState → EngineState
@@ -81,6 +87,14 @@ frame_of e = frame_figures e.plan (cost_at e.costs) e.step e.bodies
 abbrev pub builder_pieces : EngineState → Option ℕ
 builder_pieces e = told_pieces e.plan.builder e.plan.workers (sites_of e.bodies)
 
--- what the builder of an engine publishes for the tree of its bodies
+-- the counts of the update by which the last tree was made, where it was
+abbrev pub counts_told : Option MadeTree → Option UpdateCounts
+counts_told None = None
+counts_told (Some made) = made.update
+
+abbrev pub last_update : EngineState → Option UpdateCounts
+last_update e = counts_told e.last
+
+-- what the builder of an engine publishes for the tree of its bodies, which have none yet
 abbrev pub builder_publishes : EngineState → Publications
-builder_publishes e = tree_publishes e.plan.builder (sites_of e.bodies) e.shares
+builder_publishes e = tree_publishes e.plan.builder e.last (sites_of e.bodies) e.shares

@@ -1,6 +1,7 @@
 -- What an engine holds.
-use Rattle.std.specs.Prelude.{◌≡◌, List, Option, None, Some, length, map, ⊤}
+use Rattle.std.specs.Prelude.{◌≡◌, ℕ, List, Option, None, Some, length, map, ⊤}
 use Rattle.std.specs.List.{All}
+use Rattle.bh_model.specs.Plans.{TreePlan}
 use Rattle.bh_model.specs.Trees.{depth}
 use Rattle.bh_model.specs.Zones.{cost_after, zones}
 use Rattle.drift.specs.Motions.{first_motion, whole_points}
@@ -9,7 +10,8 @@ use Rattle.mass_moments.specs.Kept.{IsCost, cost_at}
 use Rattle.scene_file.specs.Bodies.{sites_of}
 use Rattle.scene_file.specs.declared.bodies.Body.{Body}
 use Rattle.build_workers.specs.Shares.{AreShares}
-use Rattle.frame_core.specs.Engines.{EngineStage, EngineState, WithoutTree, WithTree, WithFrame, Spent as IsSpent, frame_of, tree_for}
+use Rattle.frame_core.specs.Building.{MadeTree}
+use Rattle.frame_core.specs.Engines.{EngineStage, EngineState, WithoutTree, WithTree, WithFrame, Spent as IsSpent, frame_of}
 use Rattle.frame_core.specs.Frames.{pulls_of, tree_of_bodies}
 use Rattle.frame_core.specs.declared.engine.Engine.TheInside.{Inside}
 use Rattle.frame_core.specs.declared.stage.FrameParts.{FrameParts}
@@ -51,9 +53,19 @@ pub record AreParts (e : EngineState) (parts : FrameParts) : Type 0 where
   pub shares : AreShares (length e.bodies) (map (λ z. z.items) parts.zones.items)
   pub costs : All (λ p. IsCost (cost_after p)) parts.pulls.items
 
+-- a tree was made by a plan for bodies
+abbrev pub IsMadeFor : TreePlan → List Body → Option MadeTree → Type 0
+IsMadeFor plan bodies None = ⊥
+IsMadeFor plan bodies (Some made) = (made.plan ≡ plan) × (made.sites ≡ sites_of bodies)
+
 -- the last tree that an engine made is that of its plan and its bodies' points
 abbrev pub HasLast : EngineState → Type 0
-HasLast e = e.last ≡ Some (tree_for e.plan e.bodies)
+HasLast e = IsMadeFor e.plan e.bodies e.last
+
+-- a tree that was made, if any was, is one of so many bodies
+abbrev pub IsOfSize : ℕ → Option MadeTree → Type 0
+IsOfSize count None = ⊤
+IsOfSize count (Some made) = length made.sites ≡ count
 
 -- what an engine keeps at a stage: where the points have a tree it is the last one, and where they have a frame its parts
 abbrev pub KeepsStage : EngineState → Stage → Type 0
@@ -62,11 +74,12 @@ KeepsStage e held.Tree = HasLast e
 KeepsStage e (held.Frame parts) = HasLast e × AreParts e parts
 KeepsStage e held.Spent = ⊤
 
--- what every engine keeps: each body at the whole point of its motion, a cost from 1 to 65,536 for each, shares that hold each body once, and what its
--- stage says
+-- what every engine keeps: each body at the whole point of its motion, a cost from 1 to 65,536 for each, shares that hold each body once, a last tree, if
+-- it has one, of as many bodies, and what its stage says
 pub record IsEngine (e : EngineState) (stage : Stage) : Type 0 where
   pub whole : whole_points e.motion ≡ sites_of e.bodies
   pub one_cost_each : length e.costs ≡ length e.bodies
   pub cost : All IsCost e.costs
   pub shares : AreShares (length e.bodies) e.shares
+  pub last : IsOfSize (length e.bodies) e.last
   pub at_stage : KeepsStage e stage

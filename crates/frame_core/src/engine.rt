@@ -7,7 +7,7 @@ use crate::shares::first_shares;
 use crate::stage::{FrameParts, Stage};
 use crate::sums::{greatest_cost, sum_up};
 use crate::tree::KeptTree;
-use bh_model::{Plan, Pull};
+use bh_model::{Plan, Pull, UpdateCounts};
 use build_gate::Gate;
 use costzones::zones;
 use drift::Motion;
@@ -60,15 +60,15 @@ impl Model for Engine {
 }
 
 impl Engine {
-    ghost use Rattle.std.specs.Prelude.{◌≡◌, ◌<◌, IfOk, IsErr, OnErr, OnOk, length, map};
+    ghost use Rattle.std.specs.Prelude.{◌≡◌, ◌<◌, IfOk, IsErr, OnErr, OnOk, Some, length, map};
     ghost use Rattle.octant_code.specs.Points.{site_at};
     ghost use Rattle.bh_model.specs.Trees.{cell_count, depth};
     ghost use Rattle.bh_model.specs.Zones.{zone};
     ghost use Rattle.bh_model.specs.declared.plan.Builder.TheVariants.{Orig, Space};
     ghost use Rattle.frame_core.specs.Building.{IsFree, Rises, pieces_at};
-    ghost use Rattle.frame_core.specs.Engines.{HasTree, IsUsable, Spent, WithFrame, WithTree, WithoutTree, builder_pieces, builder_publishes, frame_of, opened, tree_for, where_built, with_frame, with_tree};
+    ghost use Rattle.frame_core.specs.Engines.{HasTree, IsUsable, Spent, WithFrame, WithTree, WithoutTree, builder_pieces, builder_publishes, frame_of, last_update, opened, where_built, with_frame, with_made, with_tree};
     ghost use Rattle.frame_core.specs.Frames.{pull_on, tree_of_bodies};
-    ghost use Rattle.frame_core.specs.Held.{AreParts};
+    ghost use Rattle.frame_core.specs.Held.{AreParts, IsMadeFor};
     ghost use Rattle.frame_core.specs.Next.{drifted, shifted_by};
     ghost use Rattle.mass_moments.specs.Kept.{cost_at};
     ghost use Rattle.octree.specs.ByKeys.{StandsByKeys};
@@ -139,9 +139,10 @@ impl Engine {
     }
 
     /// Makes the canonical octree of the bodies' points by a builder that waits for nobody: the workers
-    /// build it and pass the gate. For LOCAL the yard counts a body and a publication for each body, for
-    /// PARTREE each body and at most as many publications as the workers' shares have blocks, and for
-    /// SPACE nothing.
+    /// build it and pass the gate. UPDATE makes it of the last tree, and the first one as LOCAL does. For
+    /// LOCAL the yard counts a body and a publication for each body, for UPDATE too at its first tree and
+    /// then for each body that left its cell, for PARTREE each body and at most as many publications as
+    /// the workers' shares have blocks, and for SPACE nothing.
     ///
     /// # Errors
     ///
@@ -159,8 +160,18 @@ impl Engine {
         ensures counts { OnOk result (Rises (builder_publishes self.old) free.old free.new) }
         ensures kept { OnErr result (free.new ≡ free.old) }
     {
+        let last = replace(&mut self.last, None);
         let shares = self.shares.as_slice();
-        match KeptTree::make_free(rt, self.alloc, self.plan, &self.bodies, shares, free, gate) {
+        match KeptTree::make_free(
+            rt,
+            self.alloc,
+            self.plan,
+            &self.bodies,
+            shares,
+            last,
+            free,
+            gate,
+        ) {
             Ok(tree) => {
                 self.keep(tree);
                 Ok(())
@@ -171,8 +182,8 @@ impl Engine {
 
     // Keeps the tree of the bodies' points, which is the last one from then on.
     fn keep(&mut self, tree: KeptTree)
-        requires { tree ≡ tree_for self.old.plan self.old.bodies }
-        ensures { self.new ≡ with_tree self.old }
+        requires { IsMadeFor self.old.plan self.old.bodies (Some tree) }
+        ensures { self.new ≡ with_made tree self.old }
     {
         self.last = Some(tree);
         self.stage = Stage::Tree;
@@ -329,6 +340,17 @@ impl Engine {
     {
         match (&self.stage, &self.last) {
             (Stage::Tree | Stage::Frame(_), Some(tree)) => tree.pieces(),
+            _ => None,
+        }
+    }
+
+    /// The counts of the update that made the tree of the bodies' points. Some exactly where the builder is
+    /// UPDATE and the points have a tree that isn't its first.
+    pub fn update_counts(&self) -> Option<UpdateCounts>
+        ensures { result ≡ where_built self.now.stage (last_update self.now) }
+    {
+        match (&self.stage, &self.last) {
+            (Stage::Tree | Stage::Frame(_), Some(tree)) => tree.update_counts(),
             _ => None,
         }
     }

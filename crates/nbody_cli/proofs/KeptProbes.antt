@@ -3,7 +3,7 @@ use Rattle.std.proofs.Common.{◌≡◌, ◌∙◌, ◌<◌, ◌≤◌, ◌+◌,
 use Rattle.std.proofs.lemmas.List.{append-nil, drop_all, drop_more, map-append, take_all, take_more, take_more_set}
 use Rattle.std.specs.List.{filter, remove}
 use Rattle.std.proofs.Common.{append_assoc}
-use Rattle.bh_outside.specs.Outside.{Rose, Took, TookPrefix}
+use Rattle.bh_outside.specs.Outside.{Took}
 use Rattle.bh_outside.proofs.Takings.{prefix_more, prefix_then, rose_later, took_more, took_none}
 use Rattle.nbody_options.specs.declared.options.ProbeChoice.{ProbeChoice}
 use Rattle.probe.specs.Figures.{FrameFigures}

@@ -9,6 +9,7 @@ use Rattle.bh_outside.specs.Outside.{Rose, Took, TookPrefix}
 use Rattle.bh_outside.proofs.Takings.{took_none}
 use Rattle.bh_model.specs.declared.plan.Builder.{Builder}
 use Rattle.bh_model.specs.declared.plan.Builder.TheVariants as builder
+use Rattle.frame_core.specs.Building.{IsFree}
 use Rattle.frame_core.specs.Engines.{EngineState, opened}
 use Rattle.scene_file.specs.Moves.{IsScene, SceneParts}
 use Rattle.scene_file.specs.Scene.{scene_of}
@@ -194,6 +195,16 @@ ran ps o scene l0 l1 wb wn rb rn kb kn y z status.Memory end counted h = record 
   counts = amid_counts (command_parts ps o scene) (output wb kb y) (output wn kn z) counted h;
   in_turn = h;
 }
+
+-- ---- the builder
+
+-- a builder that isn't ORIG waits for nobody
+pub waits_for_nobody : (b : Builder) → (b ≡ builder.Orig → ⊥) → IsFree b
+waits_for_nobody builder.Orig other = absurd (other refl)
+waits_for_nobody builder.Local other = tt
+waits_for_nobody builder.Update other = tt
+waits_for_nobody builder.Partree other = tt
+waits_for_nobody builder.Space other = tt
 
 -- ---- runs of options
 

@@ -289,13 +289,6 @@ way_pass makes all o scene b i now e ps accepted way passes within =
 
 -- ---- one turn
 
--- a tree's engine shows the same lines
-lines_same : (c : Command) (o : Choices) (e : EngineState) → lines_of_frame c o (with_tree e) ≡ lines_of_frame c o e
-lines_same command.Tree o e = refl
-lines_same command.Passes o e = refl
-lines_same command.Run o e = refl
-lines_same command.Trial o e = refl
-
 -- the part of a frame whose tree was made and shown
 pub part_made : (ps : List ProbeState) (o : Choices) (e e1 : EngineState) (w v : Option (List ℕ)) (k l : ℕ) (y z : YardCounts) (s : Status)
     → e1 ≡ with_tree e → IsCounted y → Rises (builder_publishes e) y z
@@ -303,8 +296,7 @@ pub part_made : (ps : List ProbeState) (o : Choices) (e e1 : EngineState) (w v :
     → RunsPart (part_of_frame ps o e) (output w k y) (output v l z) s
 part_made ps o e e1 w v k l y z s made counted rose h =
     let P : EngineState → Type 0 = λ x. Shows (lines_text (lines_of_frame o.command o x) ++ lines_at (frame_of x) ps) w k v l s in
-    let Q : List TextLine → Type 0 = λ lines. Shows (lines_text lines ++ lines_at (frame_of e) ps) w k v l s in
-    part_shown (part_of_frame ps o e) w v k l y z s counted rose (subst Q (lines_same o.command o e) (subst P made h))
+    part_shown (part_of_frame ps o e) w v k l y z s counted rose (subst P made h)
 
 -- the probes that are left, after a tree that was made
 pub seen_as : (ps left : List ProbeState) (e e1 : EngineState) → e1 ≡ with_tree e → left ≡ left_after (frame_of e1) ps → left ≡ left_after (frame_of e) ps

@@ -6,23 +6,41 @@ use Rattle.bh_model.specs.Bodies.{numbers}
 use Rattle.bh_model.specs.Trees.{Tree, cell_count, depth}
 use Rattle.bh_model.specs.Zones.{zone}
 use Rattle.bh_model.specs.declared.pull.Pull.{Pull}
-use Rattle.frame_core.specs.Engines.{EngineState, builder_pieces, frame_of}
+use Rattle.bh_model.specs.declared.update.UpdateCounts.{UpdateCounts}
+use Rattle.frame_core.specs.Engines.{EngineState, builder_pieces, frame_of, last_update}
 use Rattle.frame_core.specs.Frames.{pull_on, tree_of_bodies}
 use Rattle.mass_moments.specs.Kept.{cost_at}
 use Rattle.nbody_options.specs.declared.options.Made.{Made}
+use Rattle.nbody_cli.specs.declared.frame_text.Told.{Told}
 use Rattle.nbody_cli.specs.Lines.{TextLine, TreeLine, Words, Word, Number, Numbers, Signed}
 use Rattle.probe.specs.Figures.{FrameFigures}
 use Rattle.scene_file.specs.Bodies.{sites_of}
 use Rattle.scene_file.specs.declared.made.Shape.{Shape}
 use Rattle.scene_file.specs.declared.made.Shape.TheVariants as shape
 
--- the lines of a builder: that of the number of pieces, where it tells of any
+-- the line of the number of pieces, where a builder tells of any
 abbrev pub pieces_lines : Option ℕ → List TextLine
 pieces_lines None = []
 pieces_lines (Some count) = Words (codes "pieces") (Number count ∷ []) ∷ []
 
+-- the line of the counts of an update, where a builder tells of one
+abbrev pub update_lines : Option UpdateCounts → List TextLine
+update_lines None = []
+update_lines (Some counts) =
+    Words (codes "update")
+    (Word (codes "left") ∷ Number counts.left ∷ Word (codes "freed") ∷ Number counts.freed ∷ Word (codes "taken") ∷ Number counts.taken ∷ [])
+    ∷ []
+
+-- the lines of what a builder tells
+abbrev pub told_lines : Told → List TextLine
+told_lines told = pieces_lines told.pieces ++ update_lines told.update
+
+-- what the builder of an engine tells of its last tree, which is that of its points
+abbrev pub told_of : EngineState → Told
+told_of e = record { pieces = builder_pieces e; update = last_update e }
+
 abbrev pub builder_lines : EngineState → List TextLine
-builder_lines e = pieces_lines (builder_pieces e)
+builder_lines e = told_lines (told_of e)
 
 -- the lines of a tree: its builder's behind its own
 abbrev pub tree_lines : EngineState → List TextLine
@@ -45,8 +63,8 @@ abbrev pub cost_line : FrameFigures → TextLine
 cost_line f = Words (codes "cost") (Number f.cost ∷ Word (codes "greatest") ∷ Number f.greatest ∷ [])
 
 -- the lines at the head of a frame: its first lines, those of the builder, and that of the cost
-abbrev pub head_lines : Tree → Option ℕ → FrameFigures → List TextLine
-head_lines tree pieces f = size_lines f.step tree ++ (pieces_lines pieces ++ (cost_line f ∷ []))
+abbrev pub head_lines : Tree → Told → FrameFigures → List TextLine
+head_lines tree told f = size_lines f.step tree ++ (told_lines told ++ (cost_line f ∷ []))
 
 -- the line of a worker's zone
 abbrev pub zone_line : ℕ → List ℕ → TextLine
@@ -75,7 +93,7 @@ body_lines e = map (body_line_of e) (numbers (length e.bodies))
 
 -- the lines of an engine's frame: its head, a line for each worker, and a line for each body
 abbrev pub frame_lines : EngineState → List TextLine
-frame_lines e = head_lines (tree_of_bodies e.bodies) (builder_pieces e) (frame_of e) ++ (zone_lines e ++ body_lines e)
+frame_lines e = head_lines (tree_of_bodies e.bodies) (told_of e) (frame_of e) ++ (zone_lines e ++ body_lines e)
 
 -- ---- the lines of a trial
 

@@ -2,7 +2,7 @@
 use Rattle.std.specs.Prelude.{◌==◌, ◌+◌, ℕ, Bool, List, [], ◌∷◌, ◌++◌, codes, map, if◌then◌else◌}
 use Rattle.std.specs.List.{flat_map}
 use Rattle.frame_core.specs.Building.{Publications, one_for_each}
-use Rattle.frame_core.specs.Engines.{EngineState, builder_publishes, frame_of, opened}
+use Rattle.frame_core.specs.Engines.{EngineState, builder_publishes, frame_of, opened, with_tree}
 use Rattle.frame_core.specs.Next.{pass_frames, run_frames, sum_publications}
 use Rattle.nbody_cli.specs.Frames.{frame_lines, pass_lines, tree_lines, trial_lines}
 use Rattle.nbody_cli.specs.Lines.{TextLine, Words, LineItem, Word, Number, lines_text}
@@ -73,9 +73,10 @@ abbrev pub kept_probes : Command → ProbeChoice → List ProbeState → List Pr
 kept_probes command.Run choice probes = chosen choice probes
 kept_probes _ choice probes = []
 
--- a frame's part of the text of the options: its lines, and behind them those of the probes that it finishes
+-- a frame's part of the text of the options, which is written once its tree is made: its lines, and behind them those of the probes that it finishes
 abbrev pub part_of_frame : List ProbeState → Choices → EngineState → Part
-part_of_frame probes o e = record { text = lines_text (lines_of_frame o.command o e) ++ lines_at (frame_of e) probes; publishes = builder_publishes e }
+part_of_frame probes o e =
+    record { text = lines_text (lines_of_frame o.command o (with_tree e)) ++ lines_at (frame_of e) probes; publishes = builder_publishes e }
 
 -- The parts of frames that probes see: frame after frame, each with the probes that are left of those before, and at last the lines of the probes that
 -- are left.

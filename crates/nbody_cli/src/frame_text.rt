@@ -4,14 +4,14 @@ ghost use Rattle.std.specs.Prelude.{◌≡◌, [], ◌∷◌, ◌++◌, length};
 ghost use Rattle.bh_model.specs.Trees.{cell_count, depth};
 ghost use Rattle.bh_outside.specs.Outside.{HasCause, Writes};
 ghost use Rattle.bh_outside.specs.Text.{Puts};
-ghost use Rattle.frame_core.specs.Engines.{WithFrame, WithTree, frame_of};
-ghost use Rattle.nbody_cli.specs.Frames.{body_line, body_lines, cells_line, cost_line, frame_lines, head_lines, met_line, pass_lines, pieces_lines, push_line, shape_name, size_lines, summary_lines, tree_lines, trial_line, trial_lines, zone_line, zone_lines};
+ghost use Rattle.frame_core.specs.Engines.{HasTree, WithFrame, WithTree, frame_of};
+ghost use Rattle.nbody_cli.specs.Frames.{body_line, body_lines, cells_line, cost_line, frame_lines, head_lines, met_line, pass_lines, pieces_lines, push_line, shape_name, size_lines, summary_lines, told_lines, told_of, tree_lines, trial_line, trial_lines, update_lines, zone_line, zone_lines};
 ghost use Rattle.nbody_cli.specs.Lines.{Word, line_text, lines_text};
 ghost use Rattle.nbody_cli.specs.Seen.{item_of};
 ghost use Rattle.octree.specs.Stored.{tree_of};
 
 use crate::lines::{Item, Line, put_line, put_lines};
-use bh_model::Pull;
+use bh_model::{Pull, UpdateCounts};
 use bh_outside::{Failed, Sink, TextBuffer};
 use frame_core::Engine;
 use nbody_options::Options;
@@ -36,6 +36,24 @@ fn put_cells<K: Sink>(
         Item::Number(depth as u64),
     ];
     put_line(&Line::Words(b"cells", &items), buffer, sink)
+}
+
+/// What a builder tells of a tree: of how many pieces SPACE made it, and the counts of UPDATE's update.
+#[derive(Clone, Copy)]
+pub struct Told {
+    pub pieces: Option<u32>,
+    pub update: Option<UpdateCounts>,
+}
+
+/// What the builder of an engine tells of the tree of its bodies.
+fn told_of(engine: &Engine) -> Told
+    requires { HasTree engine.now.stage }
+    ensures { result ≡ told_of engine.now }
+{
+    Told {
+        pieces: engine.pieces(),
+        update: engine.update_counts(),
+    }
 }
 
 /// Puts the first lines of the frame of a number: the number, the tree, and how large that is.
@@ -75,17 +93,51 @@ fn put_pieces<K: Sink>(
     }
 }
 
+/// Puts the line of the counts of an update, where the builder tells of one.
+fn put_update<K: Sink>(
+    update: Option<UpdateCounts>,
+    buffer: &mut TextBuffer,
+    sink: &mut K,
+) -> Result<(), Failed>
+    ensures text { Puts (K.written sink.old) (K.written sink.new) buffer.old buffer.new (lines_text (update_lines update)) result }
+    ensures cause { HasCause (K.faults sink.old) (K.faults sink.new) result }
+{
+    match update {
+        Some(counts) => {
+            let counts = [
+                Item::Word(b"left"),
+                Item::Number(counts.left as u64),
+                Item::Word(b"freed"),
+                Item::Number(counts.freed as u64),
+                Item::Word(b"taken"),
+                Item::Number(counts.taken as u64),
+            ];
+            put_lines(&[Line::Words(b"update", &counts)], buffer, sink)
+        }
+        None => put_lines(&[], buffer, sink),
+    }
+}
+
+/// Puts the lines of what a builder tells.
+fn put_told<K: Sink>(told: Told, buffer: &mut TextBuffer, sink: &mut K) -> Result<(), Failed>
+    ensures text { Puts (K.written sink.old) (K.written sink.new) buffer.old buffer.new (lines_text (told_lines told)) result }
+    ensures cause { HasCause (K.faults sink.old) (K.faults sink.new) result }
+{
+    put_pieces(told.pieces, buffer, sink)?;
+    put_update(told.update, buffer, sink)
+}
+
 /// Puts the lines of a builder, and that of the cost of all bodies and the greatest of a zone.
 fn put_costs<K: Sink>(
-    pieces: Option<u32>,
+    told: Told,
     frame: &Frame,
     buffer: &mut TextBuffer,
     sink: &mut K,
 ) -> Result<(), Failed>
-    ensures text { Puts (K.written sink.old) (K.written sink.new) buffer.old buffer.new (lines_text (pieces_lines pieces ++ (cost_line frame.now ∷ []))) result }
+    ensures text { Puts (K.written sink.old) (K.written sink.new) buffer.old buffer.new (lines_text (told_lines told ++ (cost_line frame.now ∷ []))) result }
     ensures cause { HasCause (K.faults sink.old) (K.faults sink.new) result }
 {
-    put_pieces(pieces, buffer, sink)?;
+    put_told(told, buffer, sink)?;
     let cost = [
         Item::Number(frame.cost),
         Item::Word(b"greatest"),
@@ -98,18 +150,18 @@ fn put_costs<K: Sink>(
 fn put_head<K: Sink>(
     tree: &Octree,
     size: Extent,
-    pieces: Option<u32>,
+    told: Told,
     frame: &Frame,
     buffer: &mut TextBuffer,
     sink: &mut K,
 ) -> Result<(), Failed>
     requires cells { size.cells ≡ cell_count (tree_of tree.now) }
     requires levels { size.depth ≡ depth (tree_of tree.now) }
-    ensures text { Puts (K.written sink.old) (K.written sink.new) buffer.old buffer.new (lines_text (head_lines (tree_of tree.now) pieces frame.now)) result }
+    ensures text { Puts (K.written sink.old) (K.written sink.new) buffer.old buffer.new (lines_text (head_lines (tree_of tree.now) told frame.now)) result }
     ensures cause { HasCause (K.faults sink.old) (K.faults sink.new) result }
 {
     put_size(frame.step, tree, size, buffer, sink)?;
-    put_costs(pieces, frame, buffer, sink)
+    put_costs(told, frame, buffer, sink)
 }
 
 /// Puts the line of a worker's zone.
@@ -223,7 +275,7 @@ fn put_frame<K: Sink>(
         cells: frame.cells,
         depth: engine.depth(),
     };
-    put_head(tree, size, engine.pieces(), frame, buffer, sink)?;
+    put_head(tree, size, told_of(engine), frame, buffer, sink)?;
     put_rows(engine, frame.bodies, buffer, sink)
 }
 
@@ -246,7 +298,7 @@ fn put_tree<K: Sink>(engine: &Engine, buffer: &mut TextBuffer, sink: &mut K) -> 
     ensures cause { HasCause (K.faults sink.old) (K.faults sink.new) result }
 {
     put_line(&Line::Tree(engine.octree()), buffer, sink)?;
-    put_pieces(engine.pieces(), buffer, sink)
+    put_told(told_of(engine), buffer, sink)
 }
 
 /// Writes the lines of the tree of an engine.
@@ -268,8 +320,7 @@ fn put_pass<K: Sink>(engine: &Engine, buffer: &mut TextBuffer, sink: &mut K) -> 
 {
     let tree = engine.octree();
     put_size(engine.step(), tree, engine.extent(), buffer, sink)?;
-    let pieces = engine.pieces();
-    put_pieces(pieces, buffer, sink)
+    put_told(told_of(engine), buffer, sink)
 }
 
 /// Writes the lines of a frame of passes.

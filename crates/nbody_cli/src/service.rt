@@ -8,7 +8,7 @@ ghost use Rattle.scene_file.specs.Scene.{scene_of};
 ghost use Rattle.scene_file.specs.declared.fault.SceneFault.TheVariants.{OutOfMemory};
 ghost use Rattle.nbody_cli.specs.Serving.{EndsEarly, IsOpened, Serves, ServesOptions, needs_source, ports, reads_source, scene_made_of, world};
 ghost use Rattle.probe.specs.States.{ProbeState};
-ghost use Rattle.nbody_options.specs.Options.{is_served, options_of};
+ghost use Rattle.nbody_options.specs.Options.{options_of};
 ghost use Rattle.shared_tree.specs.Seen.{YardCounts};
 ghost use Rattle.bh_model.specs.declared.plan.Builder.TheVariants.{Orig};
 
@@ -138,7 +138,6 @@ fn serve_locked<R: AllocGlobal + Threads + Wait + Sync, S: Source, K: Sink, G: G
     gate: &G,
     probes: Vec<Box<dyn Probe>>,
 ) -> Status
-    requires served { is_served options.now ≡ true }
     requires builder { options.now.plan.builder ≡ Orig }
     ensures serves { ServesOptions (map (λ b. record { kind = kind b; state = state b }) probes.items) options.now (ports (S.left source.old) (S.faults source.old) (K.written sink.old) (K.faults sink.old))
         (ports (S.left source.new) (S.faults source.new) (K.written sink.new) (K.faults sink.new)) locked.old locked.new result }
@@ -179,7 +178,6 @@ pub fn serve_free<R: AllocGlobal + Threads + Sync, S: Source, K: Sink, G: Gate>(
     gate: &G,
     probes: Vec<Box<dyn Probe>>,
 ) -> Status
-    requires served { is_served options.now ≡ true }
     requires builder { options.now.plan.builder ≡ Orig → ⊥ }
     ensures serves { ServesOptions (map (λ b. record { kind = kind b; state = state b }) probes.items) options.now (ports (S.left source.old) (S.faults source.old) (K.written sink.old) (K.faults sink.old))
         (ports (S.left source.new) (S.faults source.new) (K.written sink.new) (K.faults sink.new)) free.old free.new result }

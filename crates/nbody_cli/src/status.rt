@@ -9,7 +9,7 @@ pub enum Status {
     /// The input was read to its end and the scene is accepted, or the scene was made without touching
     /// the source, and the whole text is written.
     Done,
-    /// The words ask for nothing that is served, and the usage line is written.
+    /// The words have no options, and the usage line is written.
     Usage,
     /// A read failed. Nothing is written.
     Read,

@@ -1,6 +1,5 @@
 -- What clap's answers say of words in the plain form.
-use Rattle.std.proofs.Common.{◌≡◌, ◌∙◌, ap, sym, subst, refl, true, false, List, [], Option, Some, None, is_some, true≢false, ⊎_elim, option_and_then}
-use Rattle.std.proofs.Common.{if◌then◌else◌}
+use Rattle.std.proofs.Common.{◌≡◌, ◌∙◌, ap, sym, subst, refl, true, List, [], Option, Some, None, is_some, true≢false, ⊎_elim, option_and_then}
 use Rattle.clap.specs.Walk.{first_of}
 use Rattle.clap.specs.Matches.{first_value, found_of}
 use Rattle.clap.specs.Faults.{fault_of, is_simple_and_free}
@@ -11,9 +10,8 @@ use Rattle.clap.specs.declared.error.Error.{Error}
 use Rattle.clap.specs.declared.error.kind.ErrorKind.TheVariants as kind
 use Rattle.clap.specs.declared.parser.matches.ArgMatches.{ArgMatches}
 use Rattle.clap.proofs.WalkLemmas.{first_value-rows}
-use Rattle.nbody_options.specs.Choices.{Choices}
 use Rattle.nbody_options.specs.Line.{line}
-use Rattle.nbody_options.specs.Options.{choices_of, is_served, if_served, options_for, options_in, options_of}
+use Rattle.nbody_options.specs.Options.{choices_of, options_in, options_of}
 use Rattle.nbody_options.specs.Plain.{Text, given_by, option_names, value_of}
 use Rattle.nbody_options.proofs.ClapLine.{faults, first_of-value_of, found_in, plain_words_pass}
 
@@ -43,26 +41,11 @@ refuses_for_memory a words e same plain kinds =
 
 -- the values that clap finds are those that the words give
 pub values_found : (a : App) (words : List Text) (m : ArgMatches) → a ≡ line → is_some (given_by words) ≡ true → HasMatchesOf a words m
-    → options_of words ≡ options_for (first_value (found_of m))
+    → options_of words ≡ choices_of (first_value (found_of m))
 unfolding found_in
 values_found a words m same plain matches =
     let given = is_there (given_by words) plain in
     let rows = (matches (ap is_simple same ∙ line_is_simple)).0 ∙ ap (λ (b : App). matches_of b words) same ∙ (plain_words_pass words given.0 given.1).1 in
     let found : (name : Text) → value_of name given.0 ≡ first_value (found_of m) name =
     λ name. sym (first_value-rows (found_of m) name ∙ ap (first_of name) rows ∙ first_of-value_of name given.0) in
-    ap (option_and_then options_in) given.1 ∙ (λ i. options_for (λ name. found name i))
-
--- choices that are served are options
-pub served : (value : Text → Option Text) (o : Choices) → choices_of value ≡ Some o → is_served o ≡ true → options_for value ≡ Some o
-unfolding options_for
-served value o chosen is = ap (option_and_then if_served) chosen ∙ ap (λ b. if b then Some o else None) is
-
--- choices that aren't served are none
-pub not_served : (value : Text → Option Text) (o : Choices) → choices_of value ≡ Some o → is_served o ≡ false → options_for value ≡ None
-unfolding options_for
-not_served value o chosen is = ap (option_and_then if_served) chosen ∙ ap (λ b. if b then Some o else None) is
-
--- without choices there are no options
-pub nothing_chosen : (value : Text → Option Text) → choices_of value ≡ None → options_for value ≡ None
-unfolding options_for
-nothing_chosen value none = ap (option_and_then if_served) none
+    ap (option_and_then options_in) given.1 ∙ (λ i. choices_of (λ name. found name i))

@@ -1,4 +1,3 @@
 pub mod Choosing
 pub mod ClapLine
 pub mod PlainWords
-pub mod Served

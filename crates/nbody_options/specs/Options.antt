@@ -1,5 +1,5 @@
 -- The options of a list of words.
-use Rattle.std.specs.Prelude.{◌≡◌, ◌==◌, ◌+◌, ◌-◌, ◌^◌, ◌&&◌, ℕ, Bool, true, false, List, Option, Some, None, Result, Ok, Err, codes, take, drop, position}
+use Rattle.std.specs.Prelude.{◌≡◌, ◌==◌, ◌+◌, ◌-◌, ◌^◌, ℕ, List, Option, Some, None, Result, Ok, Err, codes, take, drop, position}
 use Rattle.std.specs.Prelude.{option_and_then, nat_le, if◌then◌else◌, ⊤}
 use Rattle.std.specs.Result.{result_ok}
 use Rattle.std.specs.Str.{bytes_eq}
@@ -123,35 +123,13 @@ choices_of value =
     choices_from (option_and_then command_of (value (codes "command"))) (plan_of value) (given_or 1 (decimal_from 1 10000) (value (codes "steps")))
     (given_or probe.Nobody probe_of (value (codes "probe"))) (made_of value)
 
--- ---- what is served
-
--- the builders that are served
-abbrev pub serves_builder : Builder → Bool
-serves_builder builder.Orig = true
-serves_builder builder.Local = true
-serves_builder builder.Partree = true
-serves_builder builder.Space = true
-serves_builder _ = false
-
--- the program serves the choices: every command, every builder but `update`, any number of steps, and any probes
-abbrev pub is_served : Choices → Bool
-is_served c = serves_builder c.plan.builder
-
--- the choices, where they are served
-abbrev pub if_served : Choices → Option Choices
-if_served c = if is_served c then Some c else None
-
 -- ---- the words
-
--- the options of what was given
-unfoldable pub options_for : (Text → Option Text) → Option Choices
-options_for value = option_and_then if_served (choices_of value)
 
 -- the options of what the words give
 abbrev pub options_in : Given → Option Choices
-options_in given = options_for (λ name. value_of name given)
+options_in given = choices_of (λ name. value_of name given)
 
--- the options of the words: those of what the words give, where they have the plain form, every value keeps its rule, and they are served
+-- the options of the words: those of what the words give, where they have the plain form and every value keeps its rule
 abbrev pub options_of : List Text → Option Choices
 options_of words = option_and_then options_in (given_by words)
 

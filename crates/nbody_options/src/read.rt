@@ -4,12 +4,11 @@ ghost use Rattle.std.specs.Prelude.{◌≡◌, IfOk, false, map, string_bytes};
 ghost use Rattle.clap.specs.Simple.{app_of};
 ghost use Rattle.clap.specs.Walk.{rule_of};
 ghost use Rattle.nbody_options.specs.Line.{command_rule, line, option_rule, with_options};
-ghost use Rattle.nbody_options.specs.Options.{Chooses, if_served, is_served, options_of};
+ghost use Rattle.nbody_options.specs.Options.{Chooses, options_of};
 
 use crate::options::{Options, OptionsFault};
 use crate::plain::{COMMAND, OPTION_NAMES, is_plain};
 use crate::values::choices_of;
-use bh_model::Builder;
 use clap::error::ErrorKind;
 use clap::{Arg, ArgAction};
 use std::alloc::{AllocError, Global};
@@ -61,22 +60,12 @@ fn command_line<'a>(alloc: Global) -> Result<clap::Command<'a>, AllocError>
     )
 }
 
-// Whether the program serves the options.
-fn is_served(options: &Options) -> bool
-    ensures { result ≡ is_served options.now }
-{
-    matches!(
-        options.plan.builder,
-        Builder::Orig | Builder::Local | Builder::Partree | Builder::Space
-    )
-}
-
 /// The options of the words that follow the program's name.
 ///
 /// Usage is answered exactly where the words have no options: where they aren't one command and
-/// options with their values, each at most once, where a value breaks its rule, whatever the command
-/// is, and where the options aren't served yet. Words in the plain form are read by `clap`, which can
-/// then refuse them for want of memory alone.
+/// options with their values, each at most once, and where a value breaks its rule, whatever the
+/// command is. Words in the plain form are read by `clap`, which can then refuse them for want of
+/// memory alone.
 pub fn read_options(alloc: Global, words: &[String]) -> Result<Options, OptionsFault>
     ensures { Chooses result (options_of (map string_bytes words.now)) }
 {
@@ -97,13 +86,7 @@ pub fn read_options(alloc: Global, words: &[String]) -> Result<Options, OptionsF
         },
     };
     match choices_of(&matches) {
-        Some(options) => {
-            if is_served(&options) {
-                Ok(options)
-            } else {
-                Err(OptionsFault::Usage)
-            }
-        }
+        Some(options) => Ok(options),
         None => Err(OptionsFault::Usage),
     }
 }

@@ -33,6 +33,8 @@ mod tables;
 #[cfg(test)]
 mod trials;
 #[cfg(test)]
+mod updating;
+#[cfg(test)]
 mod words;
 #[cfg(test)]
 mod workers;

@@ -182,10 +182,13 @@ fn counted<R: Abort + AllocGlobal + Threads + Wait + Sync>(
 fn each_tree_is_counted(rt: HostRuntime) -> Result<(), Fail> {
     assert!(rt; counted(&rt, "passes", SWAP)? == (4, 0));
     assert!(rt; counted(&rt, "passes --builder local", SWAP)? == (0, 4));
+    assert!(rt; counted(&rt, "passes --builder update", SWAP)? == (0, 4));
     assert!(rt; counted(&rt, "passes --builder partree", SWAP)? == (0, 2));
     assert!(rt; counted(&rt, "passes --builder space", SWAP)? == (0, 0));
     assert!(rt; counted(&rt, "run --steps 5", SWAP)? == (10, 0));
     assert!(rt; counted(&rt, "run --steps 5 --builder local", SWAP)? == (0, 10));
+    // no body leaves its cell
+    assert!(rt; counted(&rt, "run --steps 5 --builder update", SWAP)? == (0, 2));
     assert!(rt; counted(&rt, "tree --steps 5", SWAP)? == (2, 0));
     Ok(())
 }

@@ -51,7 +51,7 @@ fn tells<R: Abort + AllocGlobal + Threads + Wait + Sync>(
     line: &str,
     text: &[u8],
 ) -> Result<(), Fail> {
-    for builder in ["orig", "local", "partree", "space"] {
+    for builder in ["orig", "local", "update", "partree", "space"] {
         let words = format!(in rt.alloc(); "{line} --builder {builder}")?;
         gives(rt, &words, b"", Status::Done, text)?;
     }

@@ -77,17 +77,8 @@ fn words_out_of_the_plain_form_are_refused(rt: HostRuntime) -> Result<(), Fail> 
 }
 
 #[test]
-fn what_is_not_served_is_refused(rt: HostRuntime) -> Result<(), Fail> {
-    let rows: [&[&str]; 1] = [&["tree", "--builder", "update"]];
-    for words in rows {
-        assert!(rt; is_usage(&rt, words)?);
-    }
-    Ok(())
-}
-
-#[test]
-fn what_is_served_has_options(rt: HostRuntime) -> Result<(), Fail> {
-    let rows: [&[&str]; 10] = [
+fn each_command_builder_and_probe_has_options(rt: HostRuntime) -> Result<(), Fail> {
+    let rows: [&[&str]; 11] = [
         &["trial"],
         &["tree", "--probe", "all"],
         &["run", "--workers", "3"],
@@ -97,6 +88,8 @@ fn what_is_served_has_options(rt: HostRuntime) -> Result<(), Fail> {
         &["tree", "--steps", "2"],
         &["tree", "--builder", "local"],
         &["tree", "--builder", "partree"],
+        &["tree", "--probe", "all"],
+        &["passes", "--builder", "update"],
         &["run", "--builder", "space"],
         &[
             "tree",

@@ -51,7 +51,7 @@ fn is_common<R: Abort + AllocGlobal + Threads + Wait + Sync>(
 ) -> Result<(), Fail> {
     let alone = lines_with(rt, line, scene, "orig", 1)?;
     assert!(rt; alone.starts_with(b"frame 0\ntree "));
-    for builder in ["orig", "local", "partree", "space"] {
+    for builder in ["orig", "local", "update", "partree", "space"] {
         for workers in [1, 3, 8, 64] {
             let together = lines_with(rt, line, scene, builder, workers)?;
             assert!(rt;

@@ -9,9 +9,8 @@
 //! point (`keep`), and of one in which it leaves it (`leave`). With other words it tells nothing.
 #![tactic(auto)]
 
-ghost use Rattle.std.specs.Prelude.{◌≡◌, IfSome, OnOk, length};
+ghost use Rattle.std.specs.Prelude.{◌≡◌, OnOk, length};
 ghost use Rattle.bh_model.specs.Plans.{HasWorkers};
-ghost use Rattle.bh_model.specs.declared.plan.Builder.TheVariants.{Update};
 ghost use Rattle.frame_core.specs.Engines.{WithoutTree, with_tree};
 
 use bh_model::{Builder, Law, Plan, Pull};
@@ -69,7 +68,6 @@ fn make_tree<R: Threads + Wait + Sync>(
 ) -> anyhow::Result<()>
     requires bare { engine.old.stage ≡ WithoutTree }
     requires builder { engine.old.plan.builder ≡ builder }
-    requires served { builder ≡ Update → ⊥ }
     ensures tree { OnOk result (engine.new ≡ with_tree engine.old) }
 {
     match builder {
@@ -89,7 +87,6 @@ fn time_step<R: Clock + Threads + Wait + Sync>(
 ) -> anyhow::Result<Times>
     requires bare { engine.old.stage ≡ WithoutTree }
     requires builder { engine.old.plan.builder ≡ builder }
-    requires served { builder ≡ Update → ⊥ }
     ensures bare { OnOk result (engine.new.stage ≡ WithoutTree) }
     ensures builder { OnOk result (engine.new.plan.builder ≡ builder) }
 {
@@ -116,9 +113,7 @@ fn time_run<R: Clock + Threads + Wait + Sync>(
     plan: Plan,
     steps: u32,
     bodies: Bodies,
-) -> anyhow::Result<Times>
-    requires served { plan.builder ≡ Update → ⊥ }
-{
+) -> anyhow::Result<Times> {
     let mut engine = Engine::open(alloc, plan, bodies)?;
     let mut locked = LockedYard::new();
     let mut free = FreeYard::new();
@@ -158,13 +153,12 @@ fn time_motion<R: Clock>(
     Ok(least)
 }
 
-/// The builder of a name. UPDATE isn't served.
-fn builder_of(name: &str) -> Option<Builder>
-    ensures { IfSome result (λ b. b ≡ Update → ⊥) }
-{
+/// The builder of a name.
+fn builder_of(name: &str) -> Option<Builder> {
     match name {
         "orig" => Some(Builder::Orig),
         "local" => Some(Builder::Local),
+        "update" => Some(Builder::Update),
         "partree" => Some(Builder::Partree),
         "space" => Some(Builder::Space),
         _ => None,
@@ -172,9 +166,7 @@ fn builder_of(name: &str) -> Option<Builder>
 }
 
 /// The plan with the default law that the words ask for.
-fn plan_of(words: &[String]) -> Option<Plan>
-    ensures { IfSome result (λ p. p.builder ≡ Update → ⊥) }
-{
+fn plan_of(words: &[String]) -> Option<Plan> {
     let builder = builder_of(words.first()?.as_str())?;
     let workers = words.get(1)?.parse::<u32>().ok()?;
     if workers < 1 || workers > 64 {
@@ -193,9 +185,7 @@ fn plan_of(words: &[String]) -> Option<Plan>
 }
 
 /// The plan and the number of steps that the words ask for.
-fn asked(words: &[String]) -> Option<(Plan, u32)>
-    ensures { IfSome result (λ r. r.0.builder ≡ Update → ⊥) }
-{
+fn asked(words: &[String]) -> Option<(Plan, u32)> {
     let plan = plan_of(words)?;
     Some((plan, words.get(2)?.parse::<u32>().ok()?))
 }

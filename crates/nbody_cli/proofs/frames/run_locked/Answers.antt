@@ -1,5 +1,4 @@
 use Rattle.std.proofs.Common.{map}
-use Rattle.probe.specs.States.{ProbeState}
 use Rattle.std.proofs.Common.{◌<◌, arith, subst, sym}
 use Rattle.frame_core.specs.Engines.{EngineState}
 use Rattle.scene_file.specs.Moves.{IsPass, SceneParts, pass_at}

@@ -1,5 +1,4 @@
 use Rattle.std.proofs.Common.{map}
-use Rattle.probe.specs.States.{ProbeState}
 use Rattle.nbody_cli.proofs.Stages.{IsOnTheWay}
 use Rattle.nbody_cli.specs.Serving.{output}
 use Rattle.nbody_cli.proofs.Turns.{IsOrig}

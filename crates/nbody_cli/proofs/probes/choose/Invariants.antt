@@ -1,5 +1,4 @@
 use Rattle.std.proofs.Common.{◌-◌, length}
-use Rattle.probe.specs.States.{ProbeState}
 use Rattle.nbody_cli.proofs.KeptProbes.{IsChosen}
 use Rattle.nbody_cli.proofs.probes.choose.Given as goal
 

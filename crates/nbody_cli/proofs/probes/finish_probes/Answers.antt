@@ -1,5 +1,4 @@
 use Rattle.std.proofs.Common.{◌<◌, length, arith}
-use Rattle.probe.specs.States.{ProbeState}
 use Rattle.nbody_cli.proofs.KeptProbes.{lines_from, written_more, written_stop}
 use Rattle.nbody_cli.proofs.probes.finish_probes.Goals as goal
 

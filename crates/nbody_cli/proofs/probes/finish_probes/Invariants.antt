@@ -1,5 +1,4 @@
 use Rattle.std.proofs.Common.{drop, map}
-use Rattle.probe.specs.States.{ProbeState}
 use Rattle.nbody_cli.specs.Probes.{probe_lines}
 use Rattle.nbody_cli.proofs.KeptProbes.{IsWritten}
 use Rattle.nbody_cli.proofs.probes.finish_probes.Given as goal

@@ -1,4 +1,4 @@
-use Rattle.std.proofs.Common.{◌≡◌, ◌∙◌, ◌<◌, length, get_or, set, sym, subst, arith}
+use Rattle.std.proofs.Common.{◌∙◌, ◌<◌, length, sym, arith}
 use Rattle.nbody_cli.proofs.KeptProbes.{item_set, seen, shown_gone, shown_stop}
 use Rattle.nbody_cli.proofs.probes.show_probes.Goals as goal
 

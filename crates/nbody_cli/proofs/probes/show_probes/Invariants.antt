@@ -1,5 +1,4 @@
 use Rattle.std.proofs.Common.{◌-◌, length}
-use Rattle.probe.specs.States.{ProbeState}
 use Rattle.nbody_cli.proofs.KeptProbes.{IsShown}
 use Rattle.nbody_cli.proofs.probes.show_probes.Given as goal
 

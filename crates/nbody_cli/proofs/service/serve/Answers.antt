@@ -1,16 +1,9 @@
 use Rattle.std.proofs.Common.{◌≡◌, map, rules}
 use Rattle.std.specs.Prelude.{string_bytes}
 use Rattle.bh_model.specs.declared.plan.Builder.TheVariants.{Orig}
-use Rattle.nbody_options.proofs.Served.{options_are_served}
 use Rattle.nbody_options.specs.Options.{options_of}
 use Rattle.nbody_cli.proofs.Serving.{reads_none, serves_locked, serves_memory, serves_no_usage, serves_unlocked, serves_usage}
 use Rattle.nbody_cli.proofs.service.serve.Goals as goal
-
-pub serve_locked-requires-clause-served : goal.serve_locked-requires-clause-served
-serve_locked-requires-clause-served g c κs within = options_are_served _ c.in-Ok.options c.in-Ok.ensures
-
-pub serve_free-requires-clause-served : goal.serve_free-requires-clause-served
-serve_free-requires-clause-served g c κs within = options_are_served _ c.in-Ok.options c.in-Ok.ensures
 
 pub returns-in-Orig-clause-serves : goal.returns-in-Orig-clause-serves
 returns-in-Orig-clause-serves g c =

@@ -2,8 +2,11 @@ use Rattle.std.proofs.Common.{List, [], arith, map, subst}
 use Rattle.probe.specs.States.{ProbeState}
 use Rattle.nbody_cli.specs.Serving.{IsCounted, Runs, output}
 use Rattle.nbody_cli.specs.Text.{Part, command_parts}
-use Rattle.nbody_cli.proofs.Serving.{options_ran}
+use Rattle.nbody_cli.proofs.Serving.{options_ran, waits_for_nobody}
 use Rattle.nbody_cli.proofs.service.serve_free.Goals as goal
+
+pub run_free-requires-clause-builder : goal.run_free-requires-clause-builder
+run_free-requires-clause-builder g c κs within = waits_for_nobody c.args.options.now.plan.builder c.requires.builder
 
 pub run_free-requires-clause-accepted : goal.run_free-requires-clause-accepted
 run_free-requires-clause-accepted g c κs within = (c.in-Ok.ensures.opened []).accepted

@@ -8,7 +8,7 @@ use Rattle.build_workers.specs.Shares.{AreShares}
 use Rattle.drift.specs.Motions.{stepped, whole_points}
 use Rattle.drift.proofs.Beginnings.{first_points}
 use Rattle.frame_core.specs.Frames.{tree_of_bodies}
-use Rattle.frame_core.specs.Held.{motion_by, state_of}
+use Rattle.frame_core.specs.Held.{IsOfSize, motion_by, state_of}
 use Rattle.frame_core.specs.Next.{bodies_at, drifted}
 use Rattle.frame_core.proofs.Frames.{pulls_count}
 use Rattle.frame_core.proofs.Moved.{costs_after, drifted_is}
@@ -30,6 +30,7 @@ invariant_of-self c =
       one_cost_each = rule.one_cost_each;
       cost = rule.cost;
       shares = rule.shares;
+      last = rule.last;
       at_stage = spent_keeps _ _ c.replace-stage.ensures.after;
     }
 
@@ -69,6 +70,7 @@ invariant_of-self-2 c =
           ∙ sym count;
       cost = subst (All IsCost) (sym (costs_are c)) (costs_after pulls parts.costs);
       shares = subst (λ n. AreShares n (map (λ z. z.items) c.in-Frame.parts.zones.items)) (sym count) parts.shares;
+      last = subst (λ n. IsOfSize n i.last) (sym count) c.self.invariant.last;
       at_stage = tt;
     }
 

@@ -13,5 +13,6 @@ invariant_of-result c = record {
   cost = subst (All IsCost) (sym (c.in_ok-costs.ensures.items_if_clones_equal (λ y e. e)))
       (All-replicate IsCost _ 1 (record { positive = omega arith; small = omega arith }));
   shares = subst (λ n. AreShares n (map (λ z. z.items) c.in_ok-shares.shares.items)) c.len-2.ensures.value c.in_ok-shares.ensures.shares;
+  last = tt;
   at_stage = tt;
 }

@@ -1,6 +1,7 @@
 use Rattle.std.proofs.Common.{◌≡◌, ap, length, map, subst, sym, ◌∙◌}
 use Rattle.build_workers.specs.Shares.{AreShares}
 use Rattle.frame_core.proofs.Moved.{shifted_count}
+use Rattle.frame_core.specs.Held.{IsOfSize}
 use Rattle.drift.proofs.Beginnings.{first_points}
 use Rattle.frame_core.proofs.engine.Engine.shift.Goals as goal
 
@@ -13,5 +14,6 @@ invariant_of-self c =
       one_cost_each = rule.one_cost_each ∙ sym count;
       cost = rule.cost;
       shares = subst (λ n. AreShares n (map (λ s. s.items) c.self.inside.shares.items)) (sym count) rule.shares;
+      last = subst (λ n. IsOfSize n c.self.inside.last) (sym count) rule.last;
       at_stage = tt;
     }
