@@ -2,16 +2,20 @@
 //!
 //! Usage: step_times BUILDER WORKERS STEPS < SCENE
 //!
-//! It reads a scene, runs it for so many steps with a builder (`orig`, `local`, `partree` or `space`) and
-//! so many workers, and tells on standard error, each on a line with its name, the nanoseconds that all
-//! steps took by phase: their trees (`tree`), their frames (`frame`) and the motion behind each
-//! (`motion`). Then come the least nanoseconds of a motion alone in which each body keeps its whole
-//! point (`keep`), and of one in which it leaves it (`leave`). With other words it tells nothing.
+//! It reads a scene, runs it for so many steps with a builder (`orig`, `local`, `update`, `partree` or
+//! `space`) and so many workers, and tells on standard error, each on a line with its name, the
+//! nanoseconds that all steps took by phase: their trees (`tree`), their frames (`frame`) and the motion
+//! behind each (`motion`). Then come the least nanoseconds of a motion alone in which each body keeps its
+//! whole point (`keep`), and of one in which it leaves it (`leave`). Last come the nanoseconds of the
+//! scene's own passes, behind a first tree that isn't counted: their trees (`pass_tree`) and their moves
+//! (`moves`). With other words it tells nothing.
 #![tactic(auto)]
 
 ghost use Rattle.std.specs.Prelude.{◌≡◌, OnOk, length};
 ghost use Rattle.bh_model.specs.Plans.{HasWorkers};
-ghost use Rattle.frame_core.specs.Engines.{WithoutTree, with_tree};
+ghost use Rattle.frame_core.specs.Engines.{WithTree, WithoutTree, with_tree};
+ghost use Rattle.frame_core.specs.Next.{shifted_by};
+ghost use Rattle.scene_file.specs.Moves.{IsPass, IsScene};
 
 use bh_model::{Builder, Law, Plan, Pull};
 use bh_outside::{Input, StdSource, read_all};
@@ -20,7 +24,7 @@ use drift::Motion;
 use frame_core::Engine;
 use free_tree::FreeYard;
 use locked_tree::LockedYard;
-use scene_file::{Bodies, MOST_BYTES, read_scene};
+use scene_file::{Bodies, MOST_BYTES, Move, Passes, read_scene};
 use std::alloc::Global;
 use std::env;
 use std::rt::Clock;
@@ -129,6 +133,60 @@ fn time_run<R: Clock + Threads + Wait + Sync>(
     Ok(times)
 }
 
+/// Times one pass: its moves, and the tree behind them.
+fn time_pass<R: Clock + Threads + Wait + Sync>(
+    rt: &R,
+    builder: Builder,
+    moves: &[Move],
+    engine: &mut Engine,
+    locked: &mut LockedYard,
+    free: &mut FreeYard,
+) -> anyhow::Result<Times>
+    requires tree { engine.old.stage ≡ WithTree }
+    requires builder { engine.old.plan.builder ≡ builder }
+    requires moves { IsPass engine.old.bodies moves.now }
+    ensures tree { OnOk result (engine.new ≡ with_tree (shifted_by moves.now engine.old)) }
+{
+    let start = Instant::now(rt)?;
+    engine.shift(moves)?;
+    let motion = since(rt, start)?;
+    let start = Instant::now(rt)?;
+    make_tree(rt, builder, engine, locked, free)?;
+    let tree = since(rt, start)?;
+    Ok(Times {
+        tree,
+        frame: 0,
+        motion,
+    })
+}
+
+/// Times the passes of a scene behind its first tree.
+fn time_passes<R: Clock + Threads + Wait + Sync>(
+    rt: &R,
+    alloc: Global,
+    plan: Plan,
+    bodies: Bodies,
+    passes: &Passes,
+) -> anyhow::Result<Times>
+    requires { IsScene (record { bodies = bodies; passes = passes.now }) }
+{
+    let mut engine = Engine::open(alloc, plan, bodies)?;
+    let mut locked = LockedYard::new();
+    let mut free = FreeYard::new();
+    let mut times = Times {
+        tree: 0,
+        frame: 0,
+        motion: 0,
+    };
+    make_tree(rt, plan.builder, &mut engine, &mut locked, &mut free)?;
+    for i in 0..passes.len() {
+        let moves = passes.pass(i);
+        let pass = time_pass(rt, plan.builder, moves, &mut engine, &mut locked, &mut free)?;
+        times = times.and(pass);
+    }
+    Ok(times)
+}
+
 /// The least time of a motion alone, in which each body is pulled along x.
 fn time_motion<R: Clock>(
     rt: &R,
@@ -204,13 +262,17 @@ fn main(rt: HostRuntime) -> anyhow::Result<()> {
     let bodies = scene.bodies;
     let keep = time_motion(&rt, alloc, &bodies, 0)?;
     let leave = time_motion(&rt, alloc, &bodies, TWO_UNITS)?;
+    let again = read_scene(alloc, &bytes)?;
     let times = time_run(&rt, alloc, plan, steps, bodies)?;
+    let passed = time_passes(&rt, alloc, plan, again.bodies, &again.passes)?;
     for (name, number) in [
         ("tree", times.tree),
         ("frame", times.frame),
         ("motion", times.motion),
         ("keep", keep),
         ("leave", leave),
+        ("pass_tree", passed.tree),
+        ("moves", passed.motion),
     ] {
         eprintln!(rt; "{name} {number}")?;
     }
