@@ -1,10 +1,9 @@
 -- What follows from the rule of a list of points: different numbers have different sites, so that two of them share no cube of the last level.
-use Rattle.std.proofs.Common.{ℕ, ◌+◌, ◌*◌, ◌<◌, ◌≤◌, ◌≡◌, ◌≢◌, suc, sym, ◌∙◌, ap, subst, inl, inr, arith, List, length}
+use Rattle.std.proofs.Common.{ℕ, ◌<◌, ◌≤◌, ◌≡◌, ◌≢◌, sym, subst, inl, inr, arith, List, length}
 use Rattle.std.proofs.lemmas.Bool.{cases_lt}
 use Rattle.std.proofs.lemmas.List.Elements.{All-get_or}
-use Rattle.octant_code.specs.Space.{IsInCube, Site, key_of, octant_of, origin}
+use Rattle.octant_code.specs.Space.{IsInCube, Site, key_of, origin}
 use Rattle.octant_code.specs.Points.{ArePoints, site_at}
-use Rattle.octant_code.proofs.Keys.{key-suc}
 use Rattle.octant_code.proofs.InCube.{same_site}
 
 -- the site of each number is in the cube
@@ -19,12 +18,6 @@ sites_differ sites x n rule x_in n_in differ =
       | inr not_before ↦ λ e. rule.apart n x (omega arith) x_in (sym e)
     ]
 
--- two sites that share a cube and its octant share the next cube
-pub key_deeper : (s t : Site) (level : ℕ) → key_of s level ≡ key_of t level → octant_of s level ≡ octant_of t level
-    → key_of s (suc level) ≡ key_of t (suc level)
-key_deeper s t level keys octants =
-    key-suc s level ∙ (ap (λ y. 8 * y + octant_of s level) keys ∙ ap (λ y. 8 * key_of t level + y) octants) ∙ sym (key-suc t level)
-
 -- two numbers whose sites share a cube: it is not of the last level, where a cube is a point
 pub level_shallow : (sites : List Site) (x n level : ℕ) → ArePoints sites → x < length sites → n < length sites → x ≢ n → level ≤ 21
     → key_of (site_at sites x) level ≡ key_of (site_at sites n) level → level ≤ 20
@@ -38,10 +31,3 @@ level_shallow sites x n level rule x_in n_in differ deep keys =
           absurd (sites_differ sites x n rule x_in n_in differ
           (same_site (site_at sites x) (site_at sites n) (site_inside sites x rule x_in) (site_inside sites n rule n_in) both))
     ]
-
--- two numbers whose sites share a cube and its octant: the octant is not of the last level either
-pub level_deeper : (sites : List Site) (x n level : ℕ) → ArePoints sites → x < length sites → n < length sites → x ≢ n → level ≤ 20
-    → key_of (site_at sites x) level ≡ key_of (site_at sites n) level → octant_of (site_at sites x) level ≡ octant_of (site_at sites n) level → level < 20
-level_deeper sites x n level rule x_in n_in differ shallow keys octants =
-    let next = level_shallow sites x n (suc level) rule x_in n_in differ (omega arith) (key_deeper (site_at sites x) (site_at sites n) level keys octants) in
-    omega (arith, next)
