@@ -12,7 +12,7 @@ use Rattle.bh_model.specs.Motions.{Exact, Velocity}
 use Rattle.bh_model.specs.Pulls.{no_pull}
 use Rattle.bh_model.specs.declared.pull.Pull.{Pull}
 use Rattle.scene_file.specs.declared.moves.Move.{Move}
-use Rattle.drift.specs.Motions.{after_turn, after_turns, along, changed_point, motion_of, moves_from, no_motion, sped, stepped, stopped, target, whole}
+use Rattle.drift.specs.Motions.{after_turn, after_turns, along, changed_point, motion_of, moves_from, no_motion, sped, stepped, target, whole}
 use Rattle.drift.specs.Motions.{whole_points, with_move}
 use Rattle.drift.specs.Taken.{AreTaken}
 use Rattle.drift.specs.declared.body_motion.BodyMotion.{BodyMotion}
@@ -24,11 +24,6 @@ use Rattle.drift.proofs.Places.{differing, others_differ, same_back, taken_by_ot
 pub free_way : (others : List Site) (p : Pull) (b : BodyMotion) → list_any (same_coordinates (whole (target p b).exact)) others ≡ false
     → target p b ≡ after_turn others p b
 free_way others p b free = rw free refl
-
--- another body is in its way: it stops
-pub blocked_way : (others : List Site) (p : Pull) (b : BodyMotion) → list_any (same_coordinates (whole (target p b).exact)) others ≡ true
-    → stopped b ≡ after_turn others p b
-blocked_way others p b met = rw met refl
 
 -- a body that keeps its whole point meets nobody there
 pub same_way : (has : ℕ → Bool) (before rest : List Site) (p : Pull) (b : BodyMotion) → AreTaken has (before ++ whole b.exact ∷ rest)
@@ -42,10 +37,6 @@ no_change old new same =
     let met : same_coordinates (whole old.exact) (whole new.exact) ≡ true = ap (λ s. same_coordinates (whole old.exact) s) (sym same)
     ∙ same_coordinates_refl (whole old.exact) in
     rw met refl
-
--- it changes
-pub a_change : (old new : BodyMotion) → same_coordinates (whole old.exact) (whole new.exact) ≡ false → Some (whole new.exact) ≡ changed_point old new
-a_change old new other = rw other refl
 
 -- the target by its parts
 pub target_is : (p : Pull) (b : BodyMotion) (e : Exact) (v : Velocity) (x y z : ℕ × ℤ) (vx vy vz : ℤ) → e ≡ b.exact → v ≡ b.velocity
