@@ -21,10 +21,10 @@ differing s t differ = elim (cases_Bool (same_coordinates s t)) [
 ]
 
 -- where no body is at a point, none is found
-pub none_from : (bodies : List Body) (s : Site) (k : ℕ) → ((i : ℕ) → i < length bodies → site_at (sites_of bodies) i ≢ s)
+pub none_at : (bodies : List Body) (s : Site) (k : ℕ) → ((i : ℕ) → i < length bodies → site_at (sites_of bodies) i ≢ s)
     → position_from (λ (b : Body). same_coordinates s b.at) k bodies ≡ None
-none_from [] s k other = refl
-none_from (b ∷ bs) s k other = rw (differing s b.at (other 0 (omega arith)), none_from bs s (k + 1) (λ i within. other (suc i) (omega arith))) refl
+none_at [] s k other = refl
+none_at (b ∷ bs) s k other = rw (differing s b.at (other 0 (omega arith)), none_at bs s (k + 1) (λ i within. other (suc i) (omega arith))) refl
 
 -- the first body at a point is found
 pub first_from : (bodies : List Body) (s : Site) (k e : ℕ) → e < length bodies → site_at (sites_of bodies) e ≡ s
@@ -70,7 +70,7 @@ pub apart-push : (bodies : List Body) (body : Body) → AreApart (sites_of (bodi
 apart-push bodies body apart =
     let all = rw (sites-push bodies body) at apart in (
       apart_front (sites_of bodies) body.at all,
-      none_from bodies body.at 0 (λ i within. apart_last (sites_of bodies) body.at all i (rw (length-map bodies (λ (b : Body). b.at)) within)),
+      none_at bodies body.at 0 (λ i within. apart_last (sites_of bodies) body.at all i (rw (length-map bodies (λ (b : Body). b.at)) within)),
     )
 
 -- a first point that stands twice before one more stands twice without it

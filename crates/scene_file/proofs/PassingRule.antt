@@ -1,6 +1,6 @@
 -- What is kept while moves and passes are read.
 use Rattle.std.proofs.Common.{◌≡◌, ◌≢◌, ◌∙◌, ◌<◌, ◌≤◌, ◌+◌, ◌==◌, ◌||◌, ℕ, zero, suc, Bool, true, false, List, [], ◌∷◌, ◌++◌, All, length, take, get_or, replicate, Option, None}
-use Rattle.std.proofs.Common.{Ok, Err, refl, sym, ap, arith, inl, inr, add-one, zero-add, eqb-true, eq-eqb, length-append}
+use Rattle.std.proofs.Common.{Ok, refl, sym, ap, arith, inl, inr, add-one, zero-add, eqb-true, eq-eqb, length-append}
 use Rattle.std.specs.Prelude.{nat_le, slice_set}
 use Rattle.std.proofs.Math.Seq.{get_or-append_seam, take-append_seam, take-length}
 use Rattle.std.proofs.lemmas.Bool.{cases_Bool, cases_lt}
@@ -14,10 +14,9 @@ use Rattle.octant_code.specs.Space.{IsInCube}
 use Rattle.scene_file.specs.Bodies.{AreBodies, body_at, nobody, sites_of}
 use Rattle.scene_file.specs.Moves.{IsPass, IsScene, after_passes, move_at, move_count, moved, no_move, pass_at, shifted}
 use Rattle.scene_file.specs.Passing.{IsFound, IsPassing}
-use Rattle.scene_file.specs.Scene.{SoFar, first_meeting, names, present, still, with_move, with_moved, with_pass}
+use Rattle.scene_file.specs.Scene.{SoFar, first_meeting, names, present, still, with_move, with_pass}
 use Rattle.scene_file.specs.declared.bodies.Body.{Body}
 use Rattle.scene_file.specs.declared.moves.Move.{Move}
-use Rattle.scene_file.specs.declared.fault.SceneFault.TheVariants as fault
 use Rattle.scene_file.proofs.Finding.{found_apart}
 use Rattle.scene_file.proofs.Meetings.{none_meet}
 use Rattle.scene_file.proofs.Shifts.{shifted-length, shifted_rule}
@@ -88,28 +87,8 @@ passing_none bodies get named rule found zeros =
       in_cube = λ i d less. absurd (omega arith);
     }
 
-up_to : (a b : ℕ) → a ≤ b → nat_le a b ≡ true
-up_to a b h = grind (arith, nat_tests)
-
-past : (a b : ℕ) → b < a → nat_le a b ≡ false
-past a b h = grind (arith, nat_tests)
-
--- a move after as many as a scene may have
-pub move_many : (number : ℕ) (so_far : SoFar) (move : Move) → 262144 ≤ move_count so_far.passes + length so_far.moves
-    → with_move number so_far move ≡ Err (fault.TooMany number)
-move_many number so_far move many = rw (up_to 262144 (move_count so_far.passes + length so_far.moves) many) refl
-
--- a move of a body that there isn't
-pub move_unknown : (number : ℕ) (so_far : SoFar) (move : Move) → move_count so_far.passes + length so_far.moves < 262144
-    → length so_far.bodies ≤ move.body → with_move number so_far move ≡ Err (fault.UnknownBody number)
-move_unknown number so_far move few unknown =
-    rw (past 262144 (move_count so_far.passes + length so_far.moves) few, up_to (length so_far.bodies) move.body unknown) refl
-
--- a move of a body that the pass moved already
-pub move_twice : (number : ℕ) (so_far : SoFar) (move : Move) → move_count so_far.passes + length so_far.moves < 262144
-    → move.body < length so_far.bodies → names so_far.moves move.body ≡ true → with_move number so_far move ≡ Err (fault.MovedTwice number move.body)
-move_twice number so_far move few known again =
-    rw (past 262144 (move_count so_far.passes + length so_far.moves) few, past (length so_far.bodies) move.body known, again) refl
+pub not_up_to : (a b : ℕ) → b < a → nat_le a b ≡ false
+not_up_to a b h = grind (arith, nat_tests)
 
 -- the state with one move more
 abbrev pub moved_more : SoFar → Move → SoFar
@@ -118,7 +97,7 @@ moved_more so_far move = record { bodies = so_far.bodies; passes = so_far.passes
 pub move_more : (number : ℕ) (so_far : SoFar) (move : Move) → move_count so_far.passes + length so_far.moves < 262144
     → move.body < length so_far.bodies → names so_far.moves move.body ≡ false → with_move number so_far move ≡ Ok (moved_more so_far move)
 move_more number so_far move few known new =
-    rw (past 262144 (move_count so_far.passes + length so_far.moves) few, past (length so_far.bodies) move.body known, new) refl
+    rw (not_up_to 262144 (move_count so_far.passes + length so_far.moves) few, not_up_to (length so_far.bodies) move.body known, new) refl
 
 -- neither of two tests holds
 neither : (b rest : Bool) → (b || rest) ≡ false → (b ≡ false) × (rest ≡ false)
@@ -282,14 +261,4 @@ pub pass_ok : (number : ℕ) (so_far : SoFar) (here after : List Body) (get : �
 pass_ok number so_far here after get named count rule is few apart =
     let none : first_meeting [] (shifted so_far.moves (present so_far)) ≡ None =
     none_meet [] (shifted so_far.moves (present so_far)) (rw (← rule.present, ← is) apart) in
-    rw (past 1024 (length so_far.passes) few, none) refl
-
--- and refused where two are, or where there is no place for it
-pub pass_many : (number : ℕ) (so_far : SoFar) → 1024 ≤ length so_far.passes → with_pass number so_far ≡ Err (fault.TooMany number)
-pass_many number so_far many = rw (up_to 1024 (length so_far.passes) many) refl
-
-pub pass_met : (number : ℕ) (so_far : SoFar) (here after : List Body) (get : ℕ → Option ℕ) (named : List ℕ) (count : ℕ)
-    → IsPassing so_far here get named count → after ≡ shifted so_far.moves here → length so_far.passes < 1024
-    → with_pass number so_far ≡ with_moved number so_far (first_meeting [] after)
-pass_met number so_far here after get named count rule is few =
-    rw (past 1024 (length so_far.passes) few, is, rule.present) refl
+    rw (not_up_to 1024 (length so_far.passes) few, none) refl

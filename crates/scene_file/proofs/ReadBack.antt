@@ -1,9 +1,9 @@
 -- The text of a scene reads as the scene.
 use Rattle.std.proofs.Common.{◌≡◌, ◌≢◌, ◌∙◌, ◌<◌, ◌≤◌, ◌+◌, ◌*◌, ◌-◌, ◌^◌, ◌==◌, ℕ, suc, Bool, true, false, List, [], ◌∷◌, ◌++◌, All, map, take, length, get_or}
 use Rattle.std.proofs.Common.{None, Ok, codes, decimal, refl, sym, ap, subst, arith, inl, inr, add-zero, eqb-true, length-append, lt-ltb}
-use Rattle.std.specs.Prelude.{flat_map, if◌then◌else◌, nat_le, nat_lt}
+use Rattle.std.specs.Prelude.{flat_map, if◌then◌else◌, nat_lt}
 use Rattle.std.specs.Int.{IsInRange}
-use Rattle.std.specs.List.{list_all, position_from}
+use Rattle.std.specs.List.{list_all}
 use Rattle.std.specs.Char.{is_ascii_digit}
 use Rattle.std.proofs.lemmas.Bool.{cases_Bool}
 use Rattle.std.proofs.lemmas.Bool.Decides.{nat_tests}
@@ -22,20 +22,18 @@ use Rattle.csv.specs.Writing.{default_writer, field_text, fields_text, is_blank,
 use Rattle.csv.specs.declared.parser.State.TheVariants as st
 use Rattle.csv.proofs.RoundTrip.{read-write, rows_text}
 use Rattle.octant_code.specs.Decimal.{decimal_read}
-use Rattle.octant_code.specs.Points.{site_at}
-use Rattle.octant_code.specs.Space.{IsInCube, Site, origin, same_coordinates}
+use Rattle.octant_code.specs.Space.{IsInCube, Site, origin}
 use Rattle.scene_file.specs.Bodies.{AreBodies, body_at, nobody, number_at, sites_of, total_mass}
 use Rattle.scene_file.specs.Moves.{IsPass, IsScene, SceneParts, after_passes, move_at, move_count, no_move, pass_at, shifted}
 use Rattle.scene_file.specs.Scene.{SoFar, entry_of, first_meeting, names, scene_after, scene_of, still, with_body, with_record}
-use Rattle.scene_file.specs.Text.{body_text, move_text, pass_text, text_of_scene}
+use Rattle.scene_file.specs.Text.{body_text, move_text, pass_text, record_text, text_of_scene}
 use Rattle.scene_file.specs.declared.bodies.Body.{Body}
 use Rattle.scene_file.specs.declared.entry.Entry.TheVariants as entry
 use Rattle.scene_file.specs.declared.moves.Move.{Move}
-use Rattle.octant_code.proofs.SeenPoints.{same_coordinates_true}
-use Rattle.scene_file.proofs.BodyLists.{total_mass-push}
+use Rattle.scene_file.proofs.BodyLists.{none_at, total_mass-push}
 use Rattle.scene_file.proofs.Finding.{body_inside}
 use Rattle.scene_file.proofs.Meetings.{none_meet}
-use Rattle.scene_file.proofs.PassingRule.{after-length, move_more, moved_more, pass_more}
+use Rattle.scene_file.proofs.PassingRule.{after-length, move_more, moved_more, not_up_to, pass_more}
 use Rattle.scene_file.proofs.Records.{none_from}
 use Rattle.scene_file.proofs.Scenes.{accepted_more}
 
@@ -76,9 +74,6 @@ all_digits n small =
 
 not_below : (a b : ℕ) → b ≤ a → nat_lt a b ≡ false
 not_below a b h = grind (arith, nat_tests)
-
-not_up_to : (a b : ℕ) → b < a → nat_le a b ≡ false
-not_up_to a b h = grind (arith, nat_tests)
 
 -- a number in decimal reads as the number
 number_back : (n max : ℕ) → n ≤ max → max < 2 ^ 64 → decimal_read (decimal n) max ≡ Ok n
@@ -236,19 +231,27 @@ unmarked (b ∷ bs) passes = refl
 digits_few : (n : ℕ) → n < 2 ^ 32 → length (decimal n) ≤ 10
 digits_few n small = length-decimal-le 10 n (omega arith) (omega arith) (omega arith)
 
+-- the text of a record of a short word is short, and not empty
+record_short : (word : List ℕ) (n : ℕ) (at : Site) → length word ≡ 4 → n < 2 ^ 32 → at.x < 2 ^ 32 → at.y < 2 ^ 32 → at.z < 2 ^ 32
+    → (length (record_text word n at) ≤ 49) × (1 ≤ length (record_text word n at))
+record_short word n at four n_small x_small y_small z_small =
+    let m = digits_few n n_small in
+    let x = digits_few at.x x_small in
+    let y = digits_few at.y y_small in
+    let z = digits_few at.z z_small in
+    let numbers = flat_map (λ k. 44 ∷ decimal k) (n ∷ at.x ∷ at.y ∷ at.z ∷ []) in
+    let first = length-append (decimal n) ((44 ∷ decimal at.x) ++ ((44 ∷ decimal at.y) ++ ((44 ∷ decimal at.z) ++ []))) in
+    let second = length-append (decimal at.x) ((44 ∷ decimal at.y) ++ ((44 ∷ decimal at.z) ++ [])) in
+    let third = length-append (decimal at.y) ((44 ∷ decimal at.z) ++ []) in
+    let fourth = length-append (decimal at.z) [] in
+    let ended = length-append numbers (10 ∷ []) in
+    let all = length-append word (numbers ++ (10 ∷ [])) in
+    (omega arith, omega arith)
+
 -- the text of a body is short, and not empty
 body_short : (b : Body) → IsInRanges b → (length (body_text b) ≤ 49) × (1 ≤ length (body_text b))
 body_short b h =
-    let m = digits_few b.mass (omega (arith, h.mass)) in
-    let x = digits_few b.at.x (omega (arith, h.x)) in
-    let y = digits_few b.at.y (omega (arith, h.y)) in
-    let z = digits_few b.at.z (omega (arith, h.z)) in
-    let one = length-append (decimal b.mass) ((44 ∷ decimal b.at.x) ++ ((44 ∷ decimal b.at.y) ++ ((44 ∷ decimal b.at.z) ++ []))) in
-    let two = length-append (decimal b.at.x) ((44 ∷ decimal b.at.y) ++ ((44 ∷ decimal b.at.z) ++ [])) in
-    let three = length-append (decimal b.at.y) ((44 ∷ decimal b.at.z) ++ []) in
-    let four = length-append (decimal b.at.z) [] in
-    let all = length-append (flat_map (λ n. 44 ∷ decimal n) (b.mass ∷ b.at.x ∷ b.at.y ∷ b.at.z ∷ [])) (10 ∷ []) in
-    (omega arith, omega arith)
+    record_short (codes "body") b.mass b.at refl (omega (arith, h.mass)) (omega (arith, h.x)) (omega (arith, h.y)) (omega (arith, h.z))
 
 -- the texts of bodies and of passes are short
 bodies_short : (bodies : List Body) → All IsInRanges bodies → length (flat_map body_text bodies) ≤ 49 * length bodies
@@ -261,16 +264,7 @@ bodies_short (b ∷ bs) h =
 
 move_short : (m : Move) → IsMoveInRanges m → length (move_text m) ≤ 49
 move_short m h =
-    let n = digits_few m.body (omega (arith, h.body)) in
-    let x = digits_few m.to.x (omega (arith, h.x)) in
-    let y = digits_few m.to.y (omega (arith, h.y)) in
-    let z = digits_few m.to.z (omega (arith, h.z)) in
-    let one = length-append (decimal m.body) ((44 ∷ decimal m.to.x) ++ ((44 ∷ decimal m.to.y) ++ ((44 ∷ decimal m.to.z) ++ []))) in
-    let two = length-append (decimal m.to.x) ((44 ∷ decimal m.to.y) ++ ((44 ∷ decimal m.to.z) ++ [])) in
-    let three = length-append (decimal m.to.y) ((44 ∷ decimal m.to.z) ++ []) in
-    let four = length-append (decimal m.to.z) [] in
-    let all = length-append (flat_map (λ n. 44 ∷ decimal n) (m.body ∷ m.to.x ∷ m.to.y ∷ m.to.z ∷ [])) (10 ∷ []) in
-    omega arith
+    (record_short (codes "move") m.body m.to refl (omega (arith, h.body)) (omega (arith, h.x)) (omega (arith, h.y)) (omega (arith, h.z))).0
 
 moves_short : (moves : List Move) → All IsMoveInRanges moves → length (flat_map move_text moves) ≤ 49 * length moves
 moves_short [] h = omega arith
@@ -317,15 +311,6 @@ move_back number m h =
 end_back : (number : ℕ) → entry_of number row_of_pass ≡ Ok entry.Pass
 unfolding field_at
 end_back number = refl
-
--- no body is found at a point where none is
-none_at : (bodies : List Body) (s : Site) (k : ℕ) → ((i : ℕ) → i < length bodies → site_at (sites_of bodies) i ≢ s)
-    → position_from (λ (b : Body). same_coordinates s b.at) k bodies ≡ None
-none_at [] s k apart = refl
-none_at (b ∷ bs) s k apart = elim (cases_Bool (same_coordinates s b.at)) [
-  | inl meet ↦ absurd (apart 0 (omega arith) (sym (same_coordinates_true s b.at meet)))
-  | inr part ↦ rw part (none_at bs s (k + 1) (λ i within. apart (suc i) (omega arith)))
-]
 
 -- the next of bodies that keep the rule stands at a point of its own
 free : (start more : List Body) (b : Body) → AreBodies (start ++ b ∷ more) → number_at start b.at ≡ None

@@ -1,8 +1,7 @@
 -- What moves make of bodies.
-use Rattle.std.proofs.Common.{◌≡◌, ◌∙◌, ◌<◌, ◌+◌, ℕ, List, [], ◌∷◌, ◌++◌, All, drop, length, map, take, refl, sym, ap, arith}
+use Rattle.std.proofs.Common.{◌≡◌, ◌∙◌, ◌<◌, ◌+◌, ℕ, List, [], ◌∷◌, ◌++◌, All, drop, length, take, refl, sym, ap, arith}
 use Rattle.std.specs.Prelude.{slice_set}
 use Rattle.std.proofs.lemmas.List.{append-nil, drop_all, length-set, map-set, take_all, take_more}
-use Rattle.std.proofs.Math.Seq.{map-set_same}
 use Rattle.std.proofs.lemmas.List.Elements.{All-get_or, All-head, All-set, All-tail}
 use Rattle.std.proofs.lemmas.List.Sums.{sum_by-set}
 use Rattle.octant_code.specs.Space.{IsInCube}
@@ -30,12 +29,6 @@ pub shifted-append : (moves more : List Move) (bodies : List Body) → shifted (
 unfolding shifted
 shifted-append [] more bodies = refl
 shifted-append (m ∷ ms) more bodies = shifted-append ms more (moved m bodies)
-
--- masses stay
-pub shifted_masses : (moves : List Move) (bodies : List Body) → map (λ (b : Body). b.mass) (shifted moves bodies) ≡ map (λ (b : Body). b.mass) bodies
-unfolding shifted
-shifted_masses [] bodies = refl
-shifted_masses (m ∷ ms) bodies = shifted_masses ms (moved m bodies) ∙ map-set_same (λ (b : Body). b.mass) bodies m.body _ nobody refl
 
 -- and so does their sum
 pub shifted_mass : (moves : List Move) (bodies : List Body) → AreKnown (length bodies) moves → total_mass (shifted moves bodies) ≡ total_mass bodies

@@ -1,16 +1,21 @@
 -- The text of a scene.
 use Rattle.std.specs.Prelude.{ℕ, List, [], ◌∷◌, ◌++◌, codes, decimal, flat_map}
+use Rattle.octant_code.specs.Space.{Site}
 use Rattle.scene_file.specs.Moves.{SceneParts}
 use Rattle.scene_file.specs.declared.bodies.Body.{Body}
 use Rattle.scene_file.specs.declared.moves.Move.{Move}
 
--- the record of a body: its word, its mass and its coordinates, each after a comma and without leading zeros, and a newline
-abbrev pub body_text : Body → List ℕ
-body_text body = codes "body" ++ (flat_map (λ n. 44 ∷ decimal n) (body.mass ∷ body.at.x ∷ body.at.y ∷ body.at.z ∷ []) ++ (10 ∷ []))
+-- a record of a word, a number and a point: the word, the number and the coordinates, each after a comma and without leading zeros, and a newline
+abbrev pub record_text : List ℕ → ℕ → Site → List ℕ
+record_text word number at = word ++ (flat_map (λ n. 44 ∷ decimal n) (number ∷ at.x ∷ at.y ∷ at.z ∷ []) ++ (10 ∷ []))
 
--- the record of a move: its word, the body's number and the point, in the same way
+-- the record of a body: its word, its mass and its point
+abbrev pub body_text : Body → List ℕ
+body_text body = record_text (codes "body") body.mass body.at
+
+-- the record of a move: its word, the body's number and its new point
 abbrev pub move_text : Move → List ℕ
-move_text move = codes "move" ++ (flat_map (λ n. 44 ∷ decimal n) (move.body ∷ move.to.x ∷ move.to.y ∷ move.to.z ∷ []) ++ (10 ∷ []))
+move_text move = record_text (codes "move") move.body move.to
 
 -- the records of a pass: those of its moves, one after another, and that of its end
 abbrev pub pass_text : List Move → List ℕ

@@ -1,6 +1,6 @@
 //! Scenes that are made of a seed, always the same.
 
-ghost use Rattle.std.specs.Prelude.{◌≡◌, ◌+◌, ◌-◌, ◌*◌, ◌/◌, ◌%◌, ◌^◌, ◌<◌, ◌≤◌, ℕ, IfOk};
+ghost use Rattle.std.specs.Prelude.{◌≡◌, ◌+◌, ◌-◌, ◌*◌, ◌/◌, ◌%◌, ◌^◌, ◌<◌, ◌≤◌, ℕ, IfOk, []};
 ghost use Rattle.octant_code.specs.Points.{site_at};
 ghost use Rattle.octant_code.specs.Space.{IsInCube, octant_of};
 ghost use Rattle.scene_file.specs.Bodies.{sites_of};
@@ -68,7 +68,7 @@ fn made_body(shape: Shape, seed: u64, i: u32) -> Body
 /// The scene of a count of bodies, a seed and a shape. The code of body `i` is
 /// `i * MULTIPLIER + seed`, modulo 2^63 for `Uniform` and modulo 2^45 for `Corner`; its 21 octal
 /// digits, from the highest on, are the octants of the body's point at the levels 0 to 20. The mass of
-/// body `i` is `1 + i mod 16`.
+/// body `i` is `1 + i mod 16`. The scene has no passes.
 ///
 /// # Errors
 ///
@@ -76,6 +76,7 @@ fn made_body(shape: Shape, seed: u64, i: u32) -> Body
 pub fn made_scene(alloc: Global, count: u32, seed: u64, shape: Shape) -> Result<Scene, OutOfMemory>
     requires { count ≤ MOST_BODIES }
     ensures bodies { IfOk result (λ scene. scene.bodies ≡ made_bodies count seed shape) }
+    ensures passes { IfOk result (λ scene. scene.passes ≡ []) }
     ensures octants { IfOk result (λ scene. (i level : ℕ) → i < count → level < LEVELS → octant_of (site_at (sites_of scene.bodies) i) level ≡ code_of shape seed i / 8 ^ (20 - level) % 8) }
 {
     let mut list = Vec::with_capacity(alloc, count as usize)?;

@@ -2,14 +2,14 @@
 
 ghost use Rattle.std.specs.Prelude.{◌≡◌, ◌∷◌, ◌++◌, ◌<◌, ◌^◌, All, IfOk, Ok, OnOk, decimal, flat_map};
 ghost use Rattle.scene_file.specs.Scene.{scene_of};
-ghost use Rattle.scene_file.specs.Text.{body_text, move_text, pass_text, text_of_scene};
+ghost use Rattle.scene_file.specs.Text.{body_text, move_text, pass_text, record_text, text_of_scene};
 
 use crate::bodies::{Bodies, Body};
 use crate::moves::Move;
 use crate::passes::Passes;
 use crate::scene::Scene;
 use itoa::Buffer;
-use octant_code::OutOfMemory;
+use octant_code::{OutOfMemory, Point};
 use std::alloc::Global;
 
 // Appends a comma and a number.
@@ -22,30 +22,31 @@ fn push_number(text: &mut Vec<u8>, number: u32) -> Result<(), OutOfMemory>
     Ok(())
 }
 
+// Appends a record of a word, a number and a point.
+fn push_record(text: &mut Vec<u8>, word: &[u8], number: u32, at: Point) -> Result<(), OutOfMemory>
+    ensures { OnOk result (text.new.items ≡ text.old.items ++ record_text word.now number at) }
+{
+    text.extend_from_slice(word)?;
+    push_number(text, number)?;
+    push_number(text, at.x)?;
+    push_number(text, at.y)?;
+    push_number(text, at.z)?;
+    text.push(b'\n')?;
+    Ok(())
+}
+
 // Appends the record of a body.
 fn push_body(text: &mut Vec<u8>, body: &Body) -> Result<(), OutOfMemory>
     ensures { OnOk result (text.new.items ≡ text.old.items ++ body_text body.now) }
 {
-    text.extend_from_slice(b"body")?;
-    push_number(text, body.mass)?;
-    push_number(text, body.at.x)?;
-    push_number(text, body.at.y)?;
-    push_number(text, body.at.z)?;
-    text.push(b'\n')?;
-    Ok(())
+    push_record(text, b"body", body.mass, body.at)
 }
 
 // Appends the record of a move.
 fn push_move(text: &mut Vec<u8>, step: &Move) -> Result<(), OutOfMemory>
     ensures { OnOk result (text.new.items ≡ text.old.items ++ move_text step.now) }
 {
-    text.extend_from_slice(b"move")?;
-    push_number(text, step.body)?;
-    push_number(text, step.to.x)?;
-    push_number(text, step.to.y)?;
-    push_number(text, step.to.z)?;
-    text.push(b'\n')?;
-    Ok(())
+    push_record(text, b"move", step.body, step.to)
 }
 
 // Appends the records of a pass.

@@ -1,5 +1,5 @@
 use Rattle.std.proofs.Common.{sym, zero-add, arith}
-use Rattle.scene_file.proofs.BodyLists.{first_from, none_from}
+use Rattle.scene_file.proofs.BodyLists.{first_from, none_at}
 use Rattle.scene_file.proofs.Finding.{found_here, other_here}
 use Rattle.scene_file.proofs.gathering.number_at.Goals as goal
 
@@ -17,4 +17,4 @@ returns-then-eq c =
 pub returns : goal.returns
 returns c =
     let past = c.loop-i-test.false in
-    sym (none_from c.args.bodies.now c.args.at 0 (λ k less. c.loop-i.invariant k (omega arith)))
+    sym (none_at c.args.bodies.now c.args.at 0 (λ k less. c.loop-i.invariant k (omega arith)))
