@@ -1,5 +1,5 @@
--- The total of a quantity over the canonical octree is its sum over the bodies of the list.
-use Rattle.std.proofs.Common.{◌≡◌, ◌≤◌, ◌<◌, ◌+◌, ◌*◌, ℕ, zero, suc, List, [], ◌∷◌, inl, inr, refl, ap, ◌∙◌, sym, subst, arith, sum_by, length, get_or, eqb}
+-- The total of a quantity over the canonical octree is at most its sum over the bodies of the list.
+use Rattle.std.proofs.Common.{◌≡◌, ◌≤◌, ◌<◌, ◌+◌, ◌*◌, ℕ, zero, suc, List, [], ◌∷◌, inl, inr, refl, ap, sym, subst, arith, sum_by, length, get_or, eqb}
 use Rattle.std.proofs.Common.{not, true, false}
 use Rattle.std.specs.List.{filter}
 use Rattle.std.proofs.lemmas.Bool.{cases_Bool, eqb-true, eqb-false}
@@ -8,10 +8,9 @@ use Rattle.octant_code.specs.Space.{Site}
 use Rattle.bh_model.specs.Bodies.{IsIn, NoneTwice, numbers}
 use Rattle.bh_model.specs.Trees.{octree, order}
 use Rattle.bh_model.specs.Moments.{total}
-use Rattle.bh_model.proofs.Cells.{ArePlaced}
 use Rattle.bh_model.proofs.Equal.{not-eqb}
 use Rattle.bh_model.proofs.Lists.{filter-keeps, none_twice-filter}
-use Rattle.bh_model.proofs.Orders.{from_list, order_has_none_twice, order_members}
+use Rattle.bh_model.proofs.Orders.{from_list, order_has_none_twice}
 use Rattle.bh_model.proofs.Totals.{sum_upto, total-order}
 
 -- leaving out a number that is no member changes no sum
@@ -59,13 +58,6 @@ octree_total_le q site bodies once =
       sum_of_some q (order (octree site bodies)) bodies (order_has_none_twice site bodies) once
           (λ n i. from_list site 21 0 bodies n i),
     )
-
--- and it is that sum where the points are distinct points of the cube
-pub octree_total : (q : ℕ → ℕ) (site : ℕ → Site) (bodies : List ℕ) → NoneTwice bodies → ArePlaced site bodies → total q (octree site bodies) ≡ sum_by q bodies
-octree_total q site bodies once placed =
-    total-order q (octree site bodies)
-    ∙ sum_of_same q (order (octree site bodies)) bodies (order_has_none_twice site bodies) once
-    (λ n i. (order_members site bodies n once placed).0 i) (λ n i. (order_members site bodies n once placed).1 i)
 
 -- the sum over the numbers below a number
 pub sum_numbers : (q : ℕ → ℕ) (n : ℕ) → sum_by q (numbers n) ≡ sum_upto q n

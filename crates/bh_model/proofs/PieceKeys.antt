@@ -40,7 +40,7 @@ to_row f (suc m) k key l i = subst (λ (y : List ℕ). IsIn y key) (sym (key_row
 ])
 
 -- what is said of the members of a list holds of all
-all_members : (P : ℕ → Type 0) (xs : List ℕ) → ((n : ℕ) → IsIn xs n → P n) → All P xs
+pub all_members : (P : ℕ → Type 0) (xs : List ℕ) → ((n : ℕ) → IsIn xs n → P n) → All P xs
 all_members P [] h = All-nil P
 all_members P (x ∷ xs) h = All-cons P x xs (h x (inl refl)) (all_members P xs (λ n i. h n (inr i)))
 

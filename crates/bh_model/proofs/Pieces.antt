@@ -96,7 +96,7 @@ all_pass (x ∷ xs) = ap (λ y. x ∷ y) (all_pass xs)
 alike-length : (xs ys : List ℕ) → CountAlike xs ys → length xs ≡ length ys
 alike-length xs ys h = sym (ap length (all_pass xs)) ∙ h (λ n. true) ∙ ap length (all_pass ys)
 
-nothing : (xs : List ℕ) → length xs ≡ 0 → xs ≡ []
+pub nothing : (xs : List ℕ) → length xs ≡ 0 → xs ≡ []
 nothing [] e = refl
 nothing (x ∷ xs) e = absurd (omega arith)
 
@@ -180,9 +180,6 @@ cubes_through o r f most (suc below) level key xs deep same = elim (cases_lt mos
 abbrev pub rows : {T : Type 0} → (ℕ → List T) → ℕ → List T
 rows f zero = []
 rows f (suc k) = rows f k ++ f k
-
-pub turn_rows : {T : Type 0} (f : ℕ → List T) → in_turn f ≡ rows f 8
-turn_rows f = refl
 
 -- one more octant
 pub rows_more : {T : Type 0} (f : ℕ → List T) (k : ℕ) → rows f (k + 1) ≡ rows f k ++ f k

@@ -52,10 +52,6 @@ sum_upto-le f (suc k) (suc n) h =
 pub sum_upto-term : (f : ℕ → ℕ) (k n : ℕ) → k < n → f k ≤ sum_upto f n
 sum_upto-term f k n h = omega (arith, sum_upto-more f k, sum_upto-le f (k + 1) n (omega arith))
 
--- two values of a sum
-pub sum_upto-two : (f : ℕ → ℕ) (j k n : ℕ) → j < k → k < n → f j + f k ≤ sum_upto f n
-sum_upto-two f j k n h l = omega (arith, sum_upto-more f k, sum_upto-le f (k + 1) n (omega arith), sum_upto-term f j k h)
-
 -- sums of equal values
 pub sum_upto-same : (f g : ℕ → ℕ) (n : ℕ) → ((k : ℕ) → k < n → f k ≡ g k) → sum_upto f n ≡ sum_upto g n
 unfolding sum_upto
