@@ -8,8 +8,9 @@
 //! ORIG, LOCAL, PARTREE and SPACE (`orig`, `local`, `partree` and `space`) with 1 to 4 workers, whose
 //! shares are those of the first frame. A builder's phases are `open`, up to the first worker's start,
 //! `insert`, up to the last worker's end, and `close`, in which the workers are joined and the yard is
-//! closed, or the parts are put together; `free` is the time to give its octree back. Each is the least of all rounds, but the `first` ones, which are those of the process's
-//! first tree, by one worker of ORIG. With other words it tells nothing.
+//! closed, or the parts are put together; `free` is the time to give its octree back. Each is the least of all
+//! rounds, but the `first` ones, which are those of the process's first tree, by one worker of ORIG. With
+//! other words it tells nothing.
 #![tactic(auto)]
 
 mod gate;
@@ -35,6 +36,21 @@ use std::time::{Clock, Instant};
 /// How many words of 64 bits make the block that `nbody` takes and gives back at its start.
 const BLOCK_WORDS: usize = 4_190_000;
 
+/// Up to how many workers a builder is timed with.
+const MOST_WORKERS: usize = 4;
+
+/// How many builds a round has: each of the four builders with 1 to 4 workers.
+const BUILDS: usize = 4 * MOST_WORKERS;
+
+/// A builder.
+#[derive(Clone, Copy, Debug, PartialEq, Eq)]
+enum Builder {
+    Orig,
+    Local,
+    Partree,
+    Space,
+}
+
 /// The times of a builder's phases, in nanoseconds.
 #[derive(Clone, Copy, Drop)]
 struct Phases {
@@ -44,25 +60,25 @@ struct Phases {
     free: u64,
 }
 
-/// The times of a builder's phases with 1, 2, 3 and 4 workers.
-#[derive(Clone, Copy, Drop)]
-struct ByWorkers {
-    one: Phases,
-    two: Phases,
-    three: Phases,
-    four: Phases,
-}
-
-/// The times of a round, in nanoseconds: of one thread in key order, with the sort, and in number
-/// order, and of each builder's phases.
-#[derive(Clone, Copy, Drop)]
-struct Round {
+/// The least times of all rounds, in nanoseconds: of one thread in key order, with the sort, and in
+/// number order, and of the phases of each build, in the order of the builds of a round.
+#[derive(Drop)]
+struct Times {
     sorted: u64,
     plain: u64,
-    orig: ByWorkers,
-    local: ByWorkers,
-    partree: ByWorkers,
-    space: ByWorkers,
+    builds: Vec<Phases>,
+}
+
+impl Builder {
+    /// The builder's name in what is told.
+    fn name(self) -> &'static str {
+        match self {
+            Builder::Orig => "orig",
+            Builder::Local => "local",
+            Builder::Partree => "partree",
+            Builder::Space => "space",
+        }
+    }
 }
 
 impl Phases {
@@ -77,30 +93,38 @@ impl Phases {
     }
 }
 
-impl ByWorkers {
-    /// The least of both, phase by phase.
-    fn least(self, other: ByWorkers) -> ByWorkers {
-        ByWorkers {
-            one: self.one.least(other.one),
-            two: self.two.least(other.two),
-            three: self.three.least(other.three),
-            four: self.four.least(other.four),
-        }
+impl Times {
+    /// Times of no round: as long as can be.
+    fn longest(alloc: Global) -> Result<Times, AllocError> {
+        let longest = Phases {
+            open: u64::MAX,
+            insert: u64::MAX,
+            close: u64::MAX,
+            free: u64::MAX,
+        };
+        Ok(Times {
+            sorted: u64::MAX,
+            plain: u64::MAX,
+            builds: vec![in alloc; longest; BUILDS]?,
+        })
     }
 }
 
-impl Round {
-    /// The least of both, time by time.
-    fn least(self, other: Round) -> Round {
-        Round {
-            sorted: self.sorted.min(other.sorted),
-            plain: self.plain.min(other.plain),
-            orig: self.orig.least(other.orig),
-            local: self.local.least(other.local),
-            partree: self.partree.least(other.partree),
-            space: self.space.least(other.space),
-        }
+/// The builder of a build of a round.
+fn builder_of(build: usize) -> Builder {
+    match build / MOST_WORKERS {
+        0 => Builder::Orig,
+        1 => Builder::Local,
+        2 => Builder::Partree,
+        _ => Builder::Space,
     }
+}
+
+/// The number of workers of a build of a round.
+fn workers_of(build: usize) -> u32
+    ensures { HasWorkers result }
+{
+    1 + (build % MOST_WORKERS) as u32
 }
 
 /// The nanoseconds since a moment.
@@ -119,177 +143,103 @@ fn phases_of<R: Clock>(gate: &NotingGate<'_, R>, built: u64, freed: u64) -> Phas
     }
 }
 
-/// The times of the phases of one build by so many workers of ORIG.
-fn time_orig<R: Clock + Threads + Wait + Sync>(
+/// The times of the phases of one build by a builder and so many workers. The shares are made before
+/// the clock starts; SPACE makes its own.
+fn time_build<R: Clock + Threads + Wait + Sync>(
     rt: &R,
     alloc: Global,
     points: &Arc<Points>,
+    builder: Builder,
     workers: u32,
 ) -> anyhow::Result<Phases>
     requires { HasWorkers workers }
 {
     let shares = first_shares(alloc, workers, points.len())?;
-    let mut yard = LockedYard::new();
+    let mut locked = LockedYard::new();
+    let mut free = FreeYard::new();
     let start = Instant::now(rt)?;
     let gate = NotingGate::new(rt, start);
-    let tree = orig_build::build(rt, alloc, &mut yard, points, &shares, &gate)?;
+    let made = match builder {
+        Builder::Orig => orig_build::build(rt, alloc, &mut locked, points, &shares, &gate),
+        Builder::Local => local_build::build(rt, alloc, &mut free, points, &shares, &gate),
+        Builder::Partree => partree_merge::build(rt, alloc, &mut free, points, &shares, &gate),
+        Builder::Space => space_split::build(rt, alloc, points, workers, &gate),
+    };
+    let tree = made?;
     let built = since(rt, start)?;
     drop(tree);
     let freed = since(rt, start)?;
     Ok(phases_of(&gate, built, freed))
 }
 
-/// The times of the phases of ORIG with 1 to 4 workers.
-fn orig_by_workers<R: Clock + Threads + Wait + Sync>(
+/// Lowers the times of builds to those of one round of them.
+fn time_builds<R: Clock + Threads + Wait + Sync>(
     rt: &R,
     alloc: Global,
     points: &Arc<Points>,
-) -> anyhow::Result<ByWorkers> {
-    Ok(ByWorkers {
-        one: time_orig(rt, alloc, points, 1)?,
-        two: time_orig(rt, alloc, points, 2)?,
-        three: time_orig(rt, alloc, points, 3)?,
-        four: time_orig(rt, alloc, points, 4)?,
-    })
+    builds: &mut [Phases],
+) -> anyhow::Result<()> {
+    for build in 0..builds.len() {
+        let phases = time_build(rt, alloc, points, builder_of(build), workers_of(build))?;
+        builds[build] = builds[build].least(phases);
+    }
+    Ok(())
 }
 
-/// The times of the phases of one build by so many workers of LOCAL.
-fn time_local<R: Clock + Threads + Sync>(
-    rt: &R,
-    alloc: Global,
-    points: &Arc<Points>,
-    workers: u32,
-) -> anyhow::Result<Phases>
-    requires { HasWorkers workers }
-{
-    let shares = first_shares(alloc, workers, points.len())?;
-    let mut yard = FreeYard::new();
-    let start = Instant::now(rt)?;
-    let gate = NotingGate::new(rt, start);
-    let tree = local_build::build(rt, alloc, &mut yard, points, &shares, &gate)?;
-    let built = since(rt, start)?;
-    drop(tree);
-    let freed = since(rt, start)?;
-    Ok(phases_of(&gate, built, freed))
-}
-
-/// The times of the phases of LOCAL with 1 to 4 workers.
-fn local_by_workers<R: Clock + Threads + Sync>(
-    rt: &R,
-    alloc: Global,
-    points: &Arc<Points>,
-) -> anyhow::Result<ByWorkers> {
-    Ok(ByWorkers {
-        one: time_local(rt, alloc, points, 1)?,
-        two: time_local(rt, alloc, points, 2)?,
-        three: time_local(rt, alloc, points, 3)?,
-        four: time_local(rt, alloc, points, 4)?,
-    })
-}
-
-/// The times of the phases of one build by so many workers of PARTREE.
-fn time_partree<R: Clock + Threads + Sync>(
-    rt: &R,
-    alloc: Global,
-    points: &Arc<Points>,
-    workers: u32,
-) -> anyhow::Result<Phases>
-    requires { HasWorkers workers }
-{
-    let shares = first_shares(alloc, workers, points.len())?;
-    let mut yard = FreeYard::new();
-    let start = Instant::now(rt)?;
-    let gate = NotingGate::new(rt, start);
-    let tree = partree_merge::build(rt, alloc, &mut yard, points, &shares, &gate)?;
-    let built = since(rt, start)?;
-    drop(tree);
-    let freed = since(rt, start)?;
-    Ok(phases_of(&gate, built, freed))
-}
-
-/// The times of the phases of PARTREE with 1 to 4 workers.
-fn partree_by_workers<R: Clock + Threads + Sync>(
-    rt: &R,
-    alloc: Global,
-    points: &Arc<Points>,
-) -> anyhow::Result<ByWorkers> {
-    Ok(ByWorkers {
-        one: time_partree(rt, alloc, points, 1)?,
-        two: time_partree(rt, alloc, points, 2)?,
-        three: time_partree(rt, alloc, points, 3)?,
-        four: time_partree(rt, alloc, points, 4)?,
-    })
-}
-
-/// The times of the phases of one build by so many workers of SPACE.
-fn time_space<R: Clock + Threads + Sync>(
-    rt: &R,
-    alloc: Global,
-    points: &Arc<Points>,
-    workers: u32,
-) -> anyhow::Result<Phases>
-    requires { HasWorkers workers }
-{
-    let start = Instant::now(rt)?;
-    let gate = NotingGate::new(rt, start);
-    let tree = space_split::build(rt, alloc, points, workers, &gate)?;
-    let built = since(rt, start)?;
-    drop(tree);
-    let freed = since(rt, start)?;
-    Ok(phases_of(&gate, built, freed))
-}
-
-/// The times of the phases of SPACE with 1 to 4 workers.
-fn space_by_workers<R: Clock + Threads + Sync>(
-    rt: &R,
-    alloc: Global,
-    points: &Arc<Points>,
-) -> anyhow::Result<ByWorkers> {
-    Ok(ByWorkers {
-        one: time_space(rt, alloc, points, 1)?,
-        two: time_space(rt, alloc, points, 2)?,
-        three: time_space(rt, alloc, points, 3)?,
-        four: time_space(rt, alloc, points, 4)?,
-    })
-}
-
-/// The times of one round.
+/// Lowers times to those of one round.
 fn time_round<R: Clock + Threads + Wait + Sync>(
     rt: &R,
     alloc: Global,
     points: &Arc<Points>,
-) -> anyhow::Result<Round> {
+    least: &mut Times,
+) -> anyhow::Result<()> {
     let start = Instant::now(rt)?;
     let sorted_tree = Octree::of_points(alloc, points)?;
-    let sorted = since(rt, start)?;
+    least.sorted = least.sorted.min(since(rt, start)?);
     drop(sorted_tree);
     let start = Instant::now(rt)?;
     let plain_tree = insert_all(alloc, points)?;
-    let plain = since(rt, start)?;
+    least.plain = least.plain.min(since(rt, start)?);
     drop(plain_tree);
-    Ok(Round {
-        sorted,
-        plain,
-        orig: orig_by_workers(rt, alloc, points)?,
-        local: local_by_workers(rt, alloc, points)?,
-        partree: partree_by_workers(rt, alloc, points)?,
-        space: space_by_workers(rt, alloc, points)?,
-    })
+    time_builds(rt, alloc, points, &mut least.builds)
 }
 
-/// The times of the first tree, and the least of some rounds after it.
+/// The least times of some rounds, of which there is at least one.
 fn times_of<R: Clock + Threads + Wait + Sync>(
     rt: &R,
     alloc: Global,
     points: &Arc<Points>,
     rounds: u32,
-) -> anyhow::Result<(Phases, Round)> {
-    let first = time_orig(rt, alloc, points, 1)?;
-    let mut least = time_round(rt, alloc, points)?;
-    for _ in 1..rounds {
-        least = least.least(time_round(rt, alloc, points)?);
+) -> anyhow::Result<Times> {
+    let mut least = Times::longest(alloc)?;
+    for _ in 0..rounds.max(1) {
+        time_round(rt, alloc, points, &mut least)?;
     }
-    Ok((first, least))
+    Ok(least)
+}
+
+/// Tells the times of phases under a name.
+fn tell_phases<R: Eprint>(rt: &R, name: &str, phases: Phases) -> anyhow::Result<()> {
+    eprintln!(rt;
+        "{name}.open {}\n{name}.insert {}",
+        phases.open, phases.insert
+    )?;
+    eprintln!(rt;
+        "{name}.close {}\n{name}.free {}",
+        phases.close, phases.free
+    )?;
+    Ok(())
+}
+
+/// Tells the times of the first tree, and the least times of all rounds.
+fn tell<R: Eprint>(rt: &R, alloc: Global, first: Phases, least: &Times) -> anyhow::Result<()> {
+    eprintln!(rt; "sorted {}\nplain {}", least.sorted, least.plain)?;
+    tell_phases(rt, "first", first)?;
+    for build in 0..least.builds.len() {
+        let name = format!(in alloc; "{}.{}", builder_of(build).name(), workers_of(build))?;
+        tell_phases(rt, &name, least.builds[build])?;
+    }
+    Ok(())
 }
 
 /// Takes a great block and gives it back as `nbody` does, so that the blocks of later trees are kept.
@@ -312,32 +262,7 @@ fn main(rt: HostRuntime) -> anyhow::Result<()> {
     };
     let scene = read_scene(alloc, &bytes)?;
     let points = Arc::new(alloc, scene.bodies.points(alloc)?)?;
-    let (first, least) = times_of(&rt, alloc, &points, rounds)?;
-    eprintln!(rt; "sorted {}", least.sorted)?;
-    eprintln!(rt; "plain {}", least.plain)?;
-    for (name, phases) in [
-        ("first", first),
-        ("orig.1", least.orig.one),
-        ("orig.2", least.orig.two),
-        ("orig.3", least.orig.three),
-        ("orig.4", least.orig.four),
-        ("local.1", least.local.one),
-        ("local.2", least.local.two),
-        ("local.3", least.local.three),
-        ("local.4", least.local.four),
-        ("partree.1", least.partree.one),
-        ("partree.2", least.partree.two),
-        ("partree.3", least.partree.three),
-        ("partree.4", least.partree.four),
-        ("space.1", least.space.one),
-        ("space.2", least.space.two),
-        ("space.3", least.space.three),
-        ("space.4", least.space.four),
-    ] {
-        eprintln!(rt; "{name}.open {}", phases.open)?;
-        eprintln!(rt; "{name}.insert {}", phases.insert)?;
-        eprintln!(rt; "{name}.close {}", phases.close)?;
-        eprintln!(rt; "{name}.free {}", phases.free)?;
-    }
-    Ok(())
+    let first = time_build(&rt, alloc, &points, Builder::Orig, 1)?;
+    let least = times_of(&rt, alloc, &points, rounds)?;
+    tell(&rt, alloc, first, &least)
 }
