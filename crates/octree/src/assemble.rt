@@ -104,16 +104,15 @@ pub fn copy_below(
             let copy = put_cell(words, key, place, points, parts)?;
             for k in 0..8u32 {
                 let child = from.word_at(place_of_child(cell, k));
-                let inner = 8 * key + u64::from(k);
-                copy_below(
-                    from,
-                    child,
-                    inner,
-                    words,
-                    place_of_child(copy, k),
-                    points,
-                    parts,
-                )?;
+                let there = place_of_child(copy, k);
+                match named_by(child) {
+                    Named::Nothing => {}
+                    Named::Body(n) => words[there] = word_of_body(n),
+                    Named::Cell(_) => {
+                        let inner = 8 * key + u64::from(k);
+                        copy_below(from, child, inner, words, there, points, parts)?;
+                    }
+                }
             }
         }
     }
@@ -142,7 +141,17 @@ pub fn make_places(
     Ok(places)
 }
 
-/// Copies each part to its place.
+/// How many words the used cells of the parts have, where a number tells it. Nothing but time depends
+/// on it.
+fn words_of_parts(parts: &[Octree]) -> usize {
+    let mut count: usize = 0;
+    for part in parts {
+        count = count.saturating_add(CELL_WORDS * part.used() as usize);
+    }
+    count
+}
+
+/// Copies each part to its place. The room for all of them is taken before.
 pub fn copy_parts(
     words: &mut Vec<u64>,
     places: &[usize],
@@ -153,6 +162,7 @@ pub fn copy_parts(
     requires placed { ArePlaced points.now parts.now words.old.items places.now (length parts.now) }
     ensures { IfOk result (λ done. AreFilled points.now parts.now words.new.items places.now (cells_in words.old.items) (length parts.now)) }
 {
+    words.reserve(words_of_parts(parts))?;
     for (i, part) in parts.iter().enumerate() {
         copy_below(
             part,

@@ -1,21 +1,43 @@
-use Rattle.std.proofs.Common.{ℕ, arith, ◌≡◌, ◌+◌, ◌*◌, ◌∙◌, ap, slice_set, subst, sym}
+use Rattle.std.proofs.Common.{ℕ, List, arith, refl, ◌≡◌, ◌+◌, ◌*◌, ◌∙◌, ap, slice_set, subst, sym}
 use Rattle.octree.proofs.Copying.{AreChildrenCopied, body_copied, cell_has, cell_positive, cell_shallow, cell_shared, child_free, child_source, children_all, children_more}
 use Rattle.octree.proofs.Copying.{children_none, none_copied}
 use Rattle.octree.proofs.ReadWords.{word_small}
-use Rattle.octree.specs.Growing.{IsCopied, IsSource}
+use Rattle.octree.specs.Growing.{IsCopied, IsFreePlace, IsSource}
 use Rattle.octree.specs.Stored.{root_word}
 use Rattle.tree_rule.proofs.Laws.{forget}
 use Rattle.tree_rule.specs.Words.{at_of, child_place}
-use Rattle.octree.proofs.assemble.+copy_below.Goals.{After-place_of_child-in-loop-k}
+use Rattle.octree.proofs.assemble.+copy_below.Goals.{After-place_of_child-there, in-Nothing-named_by, in-Body-named_by, in-Cell-named_by+in_ok-copy_below-in-Cell-named_by}
 use Rattle.octree.proofs.assemble.+copy_below.Goals as goal
 
--- the key of the child
-inner_is : (t : ℕ) (c : After-place_of_child-in-loop-k t) → 8 * c.args.key + c.from.result ≡ 8 * c.args.key + c.loop-k.k
-inner_is t c = ap (λ y. 8 * c.args.key + y) c.from.ensures
-
 -- the word of the child
-child_is : (t : ℕ) (c : After-place_of_child-in-loop-k t) → c.word_at-child.result ≡ at_of c.args.from.now.words (child_place c.in-Cell.cell c.loop-k.k)
+child_is : (t : ℕ) (c : After-place_of_child-there t) → c.word_at-child.result ≡ at_of c.args.from.now.words (child_place c.in-Cell.cell c.loop-k.k)
 child_is t c = c.word_at-child.ensures ∙ ap (at_of c.args.from.now.words) c.place_of_child.ensures
+
+-- what stands below it is to be copied
+child_read : (t : ℕ) (c : After-place_of_child-there t)
+    → IsSource c.args.points.now c.args.parts.now c.args.from.now (8 * c.args.key + c.loop-k.k) c.word_at-child.result
+child_read t c =
+    child_source c.args.points.now c.args.parts.now c.args.from.now c.args.key c.args.word c.in-Cell.cell c.held-held.ensures.rule
+    c.requires.source c.in-Cell.ensures c.loop-k.k c.word_at-child.result c.loop-k-test.true (child_is t c)
+
+-- to a place whose word is empty
+child_there : (t : ℕ) (c : After-place_of_child-there t)
+    → IsFreePlace c.loop-k.words.items (8 * c.args.key + c.loop-k.k) c.place_of_child-there.result
+child_there t c =
+    child_free c.args.points.now c.args.parts.now c.args.from.now c.args.key c.args.word c.in-Cell.cell c.held-held.ensures.rule
+    c.requires.source c.in-Cell.ensures c.args.words.now.items c.args.place c.in_ok-copy-in-Cell.copy c.loop-k.words.items c.loop-k.k _ _
+    c.requires.growing c.loop-k.invariant c.loop-k-test.true refl c.place_of_child-there.ensures
+
+-- once it is copied, so are the first children with it
+child_more : (t : ℕ) (c : After-place_of_child-there t) (next : List ℕ)
+    → IsCopied c.args.points.now c.args.parts.now c.args.from.now (8 * c.args.key + c.loop-k.k) c.word_at-child.result c.loop-k.words.items next
+    c.place_of_child-there.result
+    → AreChildrenCopied c.args.points.now c.args.parts.now c.args.from.now c.args.key c.in-Cell.cell c.args.words.now.items next c.args.place
+    c.in_ok-copy-in-Cell.copy (c.loop-k.k + 1)
+child_more t c next copied =
+    children_more c.args.points.now c.args.parts.now c.args.from.now c.args.key c.args.word c.in-Cell.cell c.held-held.ensures.rule
+    c.requires.source c.in-Cell.ensures c.args.words.now.items c.args.place c.in_ok-copy-in-Cell.copy c.loop-k.words.items next c.loop-k.k
+    c.word_at-child.result _ _ c.requires.growing c.loop-k.invariant c.loop-k-test.true refl c.place_of_child-there.ensures (child_is t c) copied
 
 pub named_by-requires : goal.named_by-requires
 named_by-requires t c =
@@ -37,34 +59,46 @@ word_at-child-requires t c =
     c.in-Cell.ensures in
     omega (arith, c.held-held.ensures.rule.cells_used c.in-Cell.cell has, c.place_of_child.ensures, c.loop-k-test.true)
 
+pub named_by-requires-in-loop-k : goal.named_by-requires-in-loop-k
+named_by-requires-in-loop-k t c =
+    let d = (goal.at.named_by-requires-in-loop-k t c).After-place_of_child-there in
+    word_small c.args.from.now c.word_at-child.result c.held-held.ensures.rule
+    (forget (at_of c.args.from.now.words) (root_word c.args.from.now) c.args.from.now.base _ c.word_at-child.result (child_read t d).read)
+
 pub copy_below-requires : goal.copy_below-requires
 copy_below-requires t c =
-    let d = (goal.at.copy_below-requires t c).After-place_of_child-in-loop-k in
+    let d = (goal.at.copy_below-requires t c).After-place_of_child-there in
     let some = cell_positive c.args.points.now c.args.parts.now c.args.from.now c.args.key c.args.word c.in-Cell.cell c.held-held.ensures.rule c.requires.source
     c.in-Cell.ensures in
     let low = cell_shallow c.args.points.now c.args.parts.now c.args.from.now c.args.key c.args.word c.in-Cell.cell c.held-held.ensures.rule c.requires.source
     c.in-Cell.ensures in
-    let source = child_source c.args.points.now c.args.parts.now c.args.from.now c.args.key c.args.word c.in-Cell.cell c.held-held.ensures.rule
-    c.requires.source c.in-Cell.ensures c.loop-k.k c.word_at-child.result c.loop-k-test.true (child_is t d) in (
+    let inner : 8 * c.args.key + c.from.result ≡ 8 * c.args.key + c.loop-k.k = ap (λ y. 8 * c.args.key + y) c.from.ensures in (
       omega (arith, some, low, c.from.ensures, c.loop-k-test.true),
       (
-        subst (λ (y : ℕ). IsSource c.args.points.now c.args.parts.now c.args.from.now y c.word_at-child.result) (sym (inner_is t d)) source,
+        subst (λ (y : ℕ). IsSource c.args.points.now c.args.parts.now c.args.from.now y c.word_at-child.result) (sym inner) (child_read t d),
         (
           c.loop-k.invariant.grown,
-          child_free c.args.points.now c.args.parts.now c.args.from.now c.args.key c.args.word c.in-Cell.cell c.held-held.ensures.rule
-              c.requires.source c.in-Cell.ensures c.args.words.now.items c.args.place c.in_ok-copy-in-Cell.copy c.loop-k.words.items c.loop-k.k _ _
-              c.requires.growing c.loop-k.invariant c.loop-k-test.true (inner_is t d) c.place_of_child-in-loop-k.ensures,
+          subst (λ (y : ℕ). IsFreePlace c.loop-k.words.items y c.place_of_child-there.result) (sym inner) (child_there t d),
         ),
       ),
     )
 
 pub loop-k-preserved : goal.loop-k-preserved
 loop-k-preserved t c =
-    let d = (goal.at.loop-k-preserved t c).After-place_of_child-in-loop-k in
-    children_more c.args.points.now c.args.parts.now c.args.from.now c.args.key c.args.word c.in-Cell.cell c.held-held.ensures.rule
-    c.requires.source c.in-Cell.ensures c.args.words.now.items c.args.place c.in_ok-copy-in-Cell.copy c.loop-k.words.items c.copy_below.new.words.items c.loop-k.k
-    c.word_at-child.result _ _ c.requires.growing c.loop-k.invariant c.loop-k-test.true (inner_is t d) c.place_of_child-in-loop-k.ensures (child_is t d)
-    c.in_ok-copy_below-in-Cell.ensures
+    let d = (goal.at.loop-k-preserved t c).After-place_of_child-there in
+    elim c.match-named_by-2.branch [
+      | in-Nothing-named_by w ↦ rw w.words-is
+          (child_more t d _ (none_copied c.args.points.now c.args.parts.now c.args.from.now _ _ _ _ c.loop-k.invariant.grown w.in-Nothing-named_by.ensures))
+      | in-Body-named_by w ↦
+          let word : c.word_at-child.result ≡ w.word_of_body-in-Body-named_by.result = w.in-Body-named_by.ensures ∙ sym w.word_of_body-in-Body-named_by.ensures in
+          rw w.words-is (child_more t d _
+          (subst (λ (y : ℕ). IsCopied c.args.points.now c.args.parts.now c.args.from.now (8 * c.args.key + c.loop-k.k) c.word_at-child.result c.loop-k.words.items (slice_set c.loop-k.words.items c.place_of_child-there.result y) c.place_of_child-there.result) word
+          (body_copied c.args.points.now c.args.parts.now c.args.from.now _ _ _ w.in-Body-named_by.n _ c.loop-k.invariant.grown (child_there t d) (child_read t d) w.in-Body-named_by.ensures)))
+      | in-Cell-named_by+in_ok-copy_below-in-Cell-named_by w ↦
+          rw w.words-is (child_more t d _
+          (subst (λ (y : ℕ). IsCopied c.args.points.now c.args.parts.now c.args.from.now y c.word_at-child.result c.loop-k.words.items w.copy_below.new.words.items c.place_of_child-there.result)
+          (ap (λ y. 8 * c.args.key + y) w.from.ensures) w.in_ok-copy_below-in-Cell-named_by.ensures))
+    ]
 
 pub returns-in-Nothing : goal.returns-in-Nothing
 returns-in-Nothing t c = none_copied c.args.points.now c.args.parts.now c.args.from.now _ _ _ _ c.requires.growing c.in-Nothing.ensures

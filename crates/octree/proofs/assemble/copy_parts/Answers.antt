@@ -1,10 +1,12 @@
-use Rattle.std.proofs.Common.{ℕ, arith, get_or, length, subst, sym, refl}
+use Rattle.std.proofs.Common.{ℕ, List, arith, get_or, length, subst, sym, refl}
 use Rattle.octree.proofs.Assembling.{filled_more, filled_none, item_at, next_free, part_source}
 use Rattle.octree.specs.Growing.{AreFilled, IsCopied, IsFreePlace, cells_in}
 use Rattle.octree.proofs.assemble.copy_parts.Goals as goal
 
 pub loop-i-init : goal.loop-i-init
-loop-i-init c = filled_none c.args.points.now c.args.parts.now c.requires.parts.order c.args.words.now.items c.args.places.now (length c.args.parts.now) refl c.requires.placed
+loop-i-init c =
+    subst (λ (l : List ℕ). AreFilled c.args.points.now c.args.parts.now l c.args.places.now (cells_in c.args.words.now.items) 0) (sym c.in_ok-reserve.ensures.items)
+    (filled_none c.args.points.now c.args.parts.now c.requires.parts.order c.args.words.now.items c.args.places.now (length c.args.parts.now) refl c.requires.placed)
 
 pub copy_below-requires-clause-source : goal.copy_below-requires-clause-source
 copy_below-requires-clause-source c =
