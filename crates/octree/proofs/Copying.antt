@@ -1,6 +1,7 @@
 -- What stands below a word of an octree is copied, one cell after another.
 use Rattle.std.proofs.Common.{ℕ, ◌+◌, ◌*◌, ◌^◌, ◌<◌, ◌≤◌, ◌≡◌, ◌≢◌, ◌⊎◌, ◌↔◌, refl, sym, ◌∙◌, ap, subst, inl, inr, arith, List, length, slice_set}
 use Rattle.std.proofs.lemmas.Bool.{cases_lt}
+use Rattle.std.proofs.lemmas.List.{set-get_or}
 use Rattle.octant_code.proofs.Nested.{prefix_child, prefix_self, prefix_then}
 use Rattle.octant_code.specs.Points.{site_at}
 use Rattle.octant_code.specs.Prefixes.{IsPrefix}
@@ -13,7 +14,7 @@ use Rattle.octree.proofs.Words.{at_set_other, set_length}
 use Rattle.octree.specs.ByKeys.{IsInSome}
 use Rattle.octree.specs.Growing.{IsCellPut, IsCopied, IsFreePlace, IsGrowing, IsMade, IsSource, cells_in}
 use Rattle.octree.specs.Stored.{IsStored, Stored, root_word}
-use Rattle.tree_rule.proofs.Laws.{forget, keys_grow, shared_more}
+use Rattle.tree_rule.proofs.Laws.{ACell, NoBody, OneBody, forget, keys_grow, shared_more, word_is}
 use Rattle.tree_rule.specs.Flat.{ChildPlace, IsShared}
 use Rattle.tree_rule.specs.Sound.{BelowAs, IsReachedAs}
 use Rattle.tree_rule.specs.Words.{HasBody, HasCell, Here, IsReached, at_of, body_word, cell_word, child_place, key_place}
@@ -53,6 +54,19 @@ body_copied sites parts o key word place n before g free source e =
         ])),
       );
     }
+
+-- what names no cell is copied by one write: a body, or nothing in place of nothing
+pub word_copied : (sites : List Site) (parts : List Stored) (o : Stored) (key word place : ℕ) (before : List ℕ) → IsGrowing sites parts before
+    → IsFreePlace before key place → IsSource sites parts o key word → ((c : ℕ) → word ≡ cell_word c → ⊥)
+    → IsCopied sites parts o key word before (slice_set before place word) place
+word_copied sites parts o key word place before g free source no_cell = elim (word_is word) [
+  | NoBody e ↦
+      let same : slice_set before place word ≡ before =
+      ap (λ y. slice_set before place y) (e ∙ sym free.empty) ∙ set-get_or before place 0 in
+      subst (λ (now : List ℕ). IsCopied sites parts o key word before now place) (sym same) (none_copied sites parts o key word place before g e)
+  | OneBody n e ↦ body_copied sites parts o key word place n before g free source e
+  | ACell c e ↦ absurd (no_cell c e)
+]
 
 -- ---- a cell
 

@@ -1,12 +1,12 @@
-use Rattle.std.proofs.Common.{ℕ, List, arith, refl, ◌≡◌, ◌+◌, ◌*◌, ◌∙◌, ap, slice_set, subst, sym}
+use Rattle.std.proofs.Common.{ℕ, List, arith, refl, true, false, ◌≡◌, ◌+◌, ◌*◌, ◌∙◌, ap, slice_set, subst, sym}
 use Rattle.octree.proofs.Copying.{AreChildrenCopied, body_copied, cell_has, cell_positive, cell_shallow, cell_shared, child_free, child_source, children_all, children_more}
-use Rattle.octree.proofs.Copying.{children_none, none_copied}
+use Rattle.octree.proofs.Copying.{children_none, none_copied, word_copied}
 use Rattle.octree.proofs.ReadWords.{word_small}
 use Rattle.octree.specs.Growing.{IsCopied, IsFreePlace, IsSource}
 use Rattle.octree.specs.Stored.{root_word}
 use Rattle.tree_rule.proofs.Laws.{forget}
 use Rattle.tree_rule.specs.Words.{at_of, child_place}
-use Rattle.octree.proofs.assemble.+copy_below.Goals.{After-place_of_child-there, in-Nothing-named_by, in-Body-named_by, in-Cell-named_by+in_ok-copy_below-in-Cell-named_by}
+use Rattle.octree.proofs.assemble.+copy_below.Goals.{After-place_of_child-there, else-names_cell, then-names_cell+in_ok-copy_below-in-Cell}
 use Rattle.octree.proofs.assemble.+copy_below.Goals as goal
 
 -- the word of the child
@@ -59,9 +59,9 @@ word_at-child-requires t c =
     c.in-Cell.ensures in
     omega (arith, c.held-held.ensures.rule.cells_used c.in-Cell.cell has, c.place_of_child.ensures, c.loop-k-test.true)
 
-pub named_by-requires-in-loop-k : goal.named_by-requires-in-loop-k
-named_by-requires-in-loop-k t c =
-    let d = (goal.at.named_by-requires-in-loop-k t c).After-place_of_child-there in
+pub names_cell-requires : goal.names_cell-requires
+names_cell-requires t c =
+    let d = (goal.at.names_cell-requires t c).After-place_of_child-there in
     word_small c.args.from.now c.word_at-child.result c.held-held.ensures.rule
     (forget (at_of c.args.from.now.words) (root_word c.args.from.now) c.args.from.now.base _ c.word_at-child.result (child_read t d).read)
 
@@ -86,18 +86,15 @@ copy_below-requires t c =
 pub loop-k-preserved : goal.loop-k-preserved
 loop-k-preserved t c =
     let d = (goal.at.loop-k-preserved t c).After-place_of_child-there in
-    elim c.match-named_by-2.branch [
-      | in-Nothing-named_by w ↦ rw w.words-is
-          (child_more t d _ (none_copied c.args.points.now c.args.parts.now c.args.from.now _ _ _ _ c.loop-k.invariant.grown w.in-Nothing-named_by.ensures))
-      | in-Body-named_by w ↦
-          let word : c.word_at-child.result ≡ w.word_of_body-in-Body-named_by.result = w.in-Body-named_by.ensures ∙ sym w.word_of_body-in-Body-named_by.ensures in
-          rw w.words-is (child_more t d _
-          (subst (λ (y : ℕ). IsCopied c.args.points.now c.args.parts.now c.args.from.now (8 * c.args.key + c.loop-k.k) c.word_at-child.result c.loop-k.words.items (slice_set c.loop-k.words.items c.place_of_child-there.result y) c.place_of_child-there.result) word
-          (body_copied c.args.points.now c.args.parts.now c.args.from.now _ _ _ w.in-Body-named_by.n _ c.loop-k.invariant.grown (child_there t d) (child_read t d) w.in-Body-named_by.ensures)))
-      | in-Cell-named_by+in_ok-copy_below-in-Cell-named_by w ↦
+    elim c.if-names_cell.branch [
+      | then-names_cell+in_ok-copy_below-in-Cell w ↦
           rw w.words-is (child_more t d _
           (subst (λ (y : ℕ). IsCopied c.args.points.now c.args.parts.now c.args.from.now y c.word_at-child.result c.loop-k.words.items w.copy_below.new.words.items c.place_of_child-there.result)
-          (ap (λ y. 8 * c.args.key + y) w.from.ensures) w.in_ok-copy_below-in-Cell-named_by.ensures))
+          (ap (λ y. 8 * c.args.key + y) w.from.ensures) w.in_ok-copy_below-in-Cell.ensures))
+      | else-names_cell w ↦
+          rw w.words-is (child_more t d _
+          (word_copied c.args.points.now c.args.parts.now c.args.from.now _ _ _ _ c.loop-k.invariant.grown (child_there t d) (child_read t d)
+          (λ e x. let y : true ≡ false = sym (c.names_cell.ensures.1 (e, x)) ∙ w.if-names_cell.false in cc)))
     ]
 
 pub returns-in-Nothing : goal.returns-in-Nothing
