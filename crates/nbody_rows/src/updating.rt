@@ -3,6 +3,7 @@
 use crate::serving::{gives, run_at, sure_ends};
 use build_gate::OpenGate;
 use nbody_cli::Status;
+use std::alloc::Global;
 use std::process::Abort;
 use std::sync::Wait;
 use std::test::Fail;
@@ -35,7 +36,7 @@ fn updates<R: Abort + AllocGlobal + Threads + Wait + Sync>(
 ) -> Result<(), Fail> {
     for workers in [1, 3, 8] {
         let line = format!(in rt.alloc(); "{command} --builder update --workers {workers}")?;
-        let ran = run_at(rt, &line, scene, &sure_ends(1 << 12), &OpenGate)?;
+        let ran = run_at(rt, &line, scene, &sure_ends(1 << 17), &OpenGate)?;
         assert_eq!(rt; ran.status, Status::Done, "{line}");
         assert!(rt; ran.text.as_slice() == text, "{line}");
         assert_eq!(rt; ran.free.published, bodies, "{line}");
@@ -120,4 +121,26 @@ fn no_body_has_no_cell(rt: HostRuntime) -> Result<(), Fail> {
         text,
         1,
     )
+}
+
+/// Two bodies that change places so many times, and the text of the frames.
+fn swaps(alloc: Global, times: u32) -> Result<(Vec<u8>, Vec<u8>), Fail> {
+    let mut scene = b"body,1,0,0,0\nbody,1,1048576,0,0\n".to_vec(alloc)?;
+    let mut text = b"frame 0\ntree (b0...b1...)\ncells 1 depth 1\n".to_vec(alloc)?;
+    for pass in 1..=times {
+        let (there, here) = (pass % 2, 1 - pass % 2);
+        let moves = format!(in alloc; "move,{there},0,0,0\nmove,{here},1048576,0,0\npass\n")?;
+        scene.extend_from_slice(moves.as_bytes())?;
+        let frame = format!(in alloc;
+            "frame {pass}\ntree (b{there}...b{here}...)\ncells 1 depth 1\nupdate left 2 freed 1 taken 1\n"
+        )?;
+        text.extend_from_slice(frame.as_bytes())?;
+    }
+    Ok((scene, text))
+}
+
+#[test]
+fn two_bodies_change_places_a_thousand_times(rt: HostRuntime) -> Result<(), Fail> {
+    let (scene, text) = swaps(rt.alloc(), 1000)?;
+    updates(&rt, "passes", &scene, &text, 2002)
 }

@@ -1,7 +1,7 @@
 //! Runs with several workers: what is the same with each builder and any number of them, and that they
 //! are at work at the same time.
 
-use crate::serving::{Ran, run_at, run_with, sure_ends};
+use crate::serving::{run_at, run_with, sure_ends};
 use build_gate::{MeetGate, OpenGate};
 use nbody_cli::Status;
 use scene_file::{Shape, made_scene, scene_text};
@@ -37,7 +37,7 @@ fn lines_with<R: Abort + AllocGlobal + Threads + Wait + Sync>(
     workers: u32,
 ) -> Result<Vec<u8>, Fail> {
     let words = format!(in rt.alloc(); "{line} --builder {builder} --workers {workers}")?;
-    let (status, text) = run_with(rt, &words, scene, &sure_ends(1 << 16))?;
+    let (status, text) = run_with(rt, &words, scene, &sure_ends(1 << 20))?;
     assert_eq!(rt; status, Status::Done, "{words}");
     common_lines(rt.alloc(), &text)
 }
@@ -104,30 +104,37 @@ fn frames_of_steps_and_of_passes_are_the_same_with_each_builder_and_any_workers(
     is_common(&rt, "passes", &moved)
 }
 
-/// Two workers of a builder meet over 64 bodies.
-fn meet<R: Abort + AllocGlobal + Threads + Wait + Sync>(rt: &R, line: &str) -> Result<Ran, Fail> {
-    let gate = MeetGate::new(0, 1);
+/// Two workers of a builder meet over 64 bodies: they tell the tree that one worker of ORIG tells, and this
+/// behind it, and count so many bodies in the yard with locks and in the other.
+fn meet<R: Abort + AllocGlobal + Threads + Wait + Sync>(
+    rt: &R,
+    builder: &str,
+    locked: u64,
+    free: u64,
+    told: &[u8],
+) -> Result<(), Fail> {
     let scene = made_bodies(rt.alloc())?;
-    let ran = run_at(rt, line, &scene, &sure_ends(1 << 16), &gate)?;
-    assert!(rt; !gate.missed(), "{line}");
-    assert_eq!(rt; ran.status, Status::Done, "{line}");
-    Ok(ran)
+    let (_, mut text) = run_with(rt, "tree", &scene, &sure_ends(1 << 16))?;
+    assert!(rt; text.starts_with(b"tree ("));
+    text.extend_from_slice(told)?;
+    let gate = MeetGate::new(0, 1);
+    let line = format!(in rt.alloc(); "tree --builder {builder} --workers 2")?;
+    let ran = run_at(rt, &line, &scene, &sure_ends(1 << 16), &gate)?;
+    assert!(rt; !gate.missed(), "{builder}");
+    assert_eq!(rt; ran.status, Status::Done, "{builder}");
+    assert!(rt; ran.text.as_slice() == text.as_slice(), "{builder}");
+    assert_eq!(rt; ran.locked.published, locked, "{builder}");
+    assert_eq!(rt; ran.free.published, free, "{builder}");
+    Ok(())
 }
 
 #[test]
 fn two_workers_meet(rt: HostRuntime) -> Result<(), Fail> {
-    let orig = meet(&rt, "tree --builder orig --workers 2")?;
-    assert_eq!(rt; orig.locked.published, 64);
-    let local = meet(&rt, "tree --builder local --workers 2")?;
-    assert_eq!(rt; local.free.published, 64);
-    assert_eq!(rt; local.text.as_slice(), orig.text.as_slice());
-    let partree = meet(&rt, "tree --builder partree --workers 2")?;
-    assert_eq!(rt; partree.free.published, 64);
-    assert_eq!(rt; partree.text.as_slice(), orig.text.as_slice());
-    let space = meet(&rt, "tree --builder space --workers 2")?;
-    assert_eq!(rt; space.free.changes, 0);
-    assert!(rt; space.text.as_slice().starts_with(&orig.text));
-    Ok(())
+    meet(&rt, "orig", 64, 0, b"")?;
+    for builder in ["local", "update", "partree"] {
+        meet(&rt, builder, 0, 64, b"")?;
+    }
+    meet(&rt, "space", 0, 0, b"pieces 29\n")
 }
 
 /// Sixty-four workers of each builder make the tree of a scene, whose line this is, and count its
