@@ -1,5 +1,5 @@
 -- What the plain program's lists say of the pieces.
-use Rattle.std.proofs.Common.{ℕ, ◌+◌, ◌-◌, ◌*◌, ◌^◌, ◌<◌, ◌≤◌, ◌≡◌, suc, refl, sym, ◌∙◌, ap, arith, add-one, append_assoc, List, [], ◌∷◌, ◌++◌, eqb, length}
+use Rattle.std.proofs.Common.{ℕ, ◌+◌, ◌-◌, ◌*◌, ◌^◌, ◌<◌, ◌≤◌, ◌≡◌, suc, sym, ◌∙◌, ap, arith, add-one, append_assoc, List, ◌++◌, eqb, length}
 use Rattle.octant_code.proofs.Keys.{pow8-mono}
 use Rattle.std.proofs.lemmas.List.Sums.{count_by-le-length, length-filter}
 use Rattle.octant_code.specs.Space.{Site, octant_of}
@@ -40,7 +40,3 @@ octant_few site level k bodies = omega (
   count_by-le-length (λ n. eqb (octant_of
       (site n) level) k) bodies,
 )
-
-pub no_body : (bodies : List ℕ) → length bodies ≡ 0 → bodies ≡ []
-no_body [] e = refl
-no_body (n ∷ rest) e = absurd (omega arith)

@@ -1,15 +1,15 @@
 -- What the plain program's steps say of a zone.
-use Rattle.std.proofs.Common.{◌≡◌, ◌≤◌, ◌<◌, ◌+◌, ◌*◌, ◌/◌, ℕ, zero, suc, cond, eqb, List, [], ◌∷◌, ◌++◌, All, length, get_or, drop, refl, sym, ap, ◌∙◌}
-use Rattle.std.proofs.Common.{subst, inl, inr, arith, add-one, append_assoc, append-nil}
+use Rattle.std.proofs.Common.{◌≡◌, ◌≤◌, ◌<◌, ◌+◌, ◌*◌, ◌/◌, ℕ, cond, eqb, List, [], ◌∷◌, ◌++◌, All, length, get_or, drop, sym, ap, ◌∙◌}
+use Rattle.std.proofs.Common.{subst, inl, inr, add-one, append_assoc, append-nil}
 use Rattle.std.proofs.Math.Seq.{drop-cons}
 use Rattle.std.proofs.Math.ListN.{drop_of_length-le}
 use Rattle.std.proofs.lemmas.Bool.Decides.{eqb_tells}
 use Rattle.octant_code.specs.Space.{Site}
-use Rattle.bh_model.specs.Bodies.{IsIn}
 use Rattle.bh_model.specs.Trees.{octree, order}
 use Rattle.bh_model.specs.Zones.{zone_from}
 use Rattle.bh_model.proofs.Cells.{member_of_all}
 use Rattle.bh_model.proofs.Orders.{from_list}
+use Rattle.bh_model.proofs.PieceKeys.{all_members}
 use Rattle.bh_model.proofs.ZoneCuts.{zone_from-none, zone_from-other, zone_from-own}
 
 -- the zone from a body on: the body if its share is the zone's, and the zone from the next body on
@@ -43,15 +43,9 @@ zone_done cost workers whole before xs w i kept all last known =
     sym (append-nil kept) ∙ ap (λ y. kept ++ y) (sym (zone_from-none cost workers whole before w))
     ∙ ap (λ y. kept ++ zone_from cost workers whole before y w) (sym (drop_of_length-le xs last)) ∙ known
 
--- what holds of each member of a list holds of all
-all_of_members : (P : ℕ → Type 0) (xs : List ℕ) → ((n : ℕ) → IsIn xs n → P n) → All P xs
-all_of_members P [] h i d l = absurd (omega arith)
-all_of_members P (x ∷ xs) h zero d l = h x (inl refl)
-all_of_members P (x ∷ xs) h (suc i) d l = all_of_members P xs (λ n j. h n (inr j)) i d (omega arith)
-
 -- the bodies in tree order are of the list
 pub order_within : (site : ℕ → Site) (bodies found : List ℕ) (most : ℕ) → found ≡ order (octree site bodies) → All (λ n. n < most) bodies
     → All (λ n. n < most) found
 order_within site bodies found most e h =
     subst (λ (y : List ℕ). All (λ n. n < most) y) (sym e)
-    (all_of_members (λ n. n < most) (order (octree site bodies)) (λ n i. member_of_all (λ m. m < most) bodies n h (from_list site 21 0 bodies n i)))
+    (all_members (λ n. n < most) (order (octree site bodies)) (λ n i. member_of_all (λ m. m < most) bodies n h (from_list site 21 0 bodies n i)))

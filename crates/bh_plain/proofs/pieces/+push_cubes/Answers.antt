@@ -3,15 +3,15 @@ use Rattle.std.proofs.Math.Nat.{pow-suc}
 use Rattle.octant_code.specs.Points.{site_at}
 use Rattle.bh_model.specs.Pieces.{cubes_from, octants_of}
 use Rattle.bh_model.specs.Trees.{in_octant}
-use Rattle.bh_model.proofs.Pieces.{cubes-few, cubes-last, cubes-none, rows}
+use Rattle.bh_model.proofs.Pieces.{cubes-few, cubes-last, cubes-none, nothing, rows}
 use Rattle.bh_model.proofs.Splits.{octants_within}
-use Rattle.bh_plain.proofs.ListPieces.{child_key_fits, cubes_more, cubes_of_split, no_body, octant_cubes, octant_few}
+use Rattle.bh_plain.proofs.ListPieces.{child_key_fits, cubes_more, cubes_of_split, octant_cubes, octant_few}
 use Rattle.bh_plain.proofs.pieces.+push_cubes.Goals as goal
 use Rattle.bh_plain.proofs.pieces.+push_cubes.Goals.{then-count-most-via-then-count-most, then-count-most-via-else-count-most+then-level-eq-LEVELS}
 
 pub returns-then-count-eq0 : goal.returns-then-count-eq0
 returns-then-count-eq0 t c =
-    let none : c.args.bodies.now ≡ [] = no_body c.args.bodies.now c.if-count-eq0.true in
+    let none : c.args.bodies.now ≡ [] = nothing c.args.bodies.now c.if-count-eq0.true in
     let o = octants_of (site_at c.args.points.now) in
     sym (append-nil c.args.out.now.items)
     ∙ ap (λ y. c.args.out.now.items ++ y)
