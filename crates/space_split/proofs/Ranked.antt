@@ -11,6 +11,14 @@ use Rattle.bh_model.proofs.Standing.{length_numbers, number_at_place}
 use Rattle.space_split.specs.Sorted.{coded_in, coded_of}
 use Rattle.space_split.specs.declared.codes.Coded.{Coded}
 
+-- what the numbers of no bodies give, and those of one body more
+pub row_none : (f : ℕ → ℕ) → [] ≡ map f (numbers 0)
+unfolding numbers
+row_none f = refl
+
+pub row_more : (f : ℕ → ℕ) (row : List ℕ) (n : ℕ) → row ≡ map f (numbers n) → row ++ (f n ∷ []) ≡ map f (numbers (n + 1))
+row_more f row n told = ap (λ y. y ++ (f n ∷ [])) told ∙ sym (map_push f (numbers n) n) ∙ ap (map f) (sym (numbers_more n))
+
 -- no rank is that of no body
 pub rank_none : map body_of_rank [] ≡ numbers 0
 unfolding numbers

@@ -1,9 +1,9 @@
 -- The key of a point has its coordinates' bits in turn.
-use Rattle.std.proofs.Common.{ℕ, ◌+◌, ◌-◌, ◌*◌, ◌/◌, ◌%◌, ◌^◌, ◌<◌, ◌≤◌, ◌≡◌, zero, suc, refl, sym, ap, ◌∙◌, arith}
+use Rattle.std.proofs.Common.{ℕ, ◌+◌, ◌-◌, ◌*◌, ◌/◌, ◌%◌, ◌^◌, ◌<◌, ◌≡◌, zero, suc, refl, sym, ap, ◌∙◌, arith}
 use Rattle.std.proofs.Common.{◌≢◌, inl, inr, List, get_or, length, set, get_or-set_same, get_or-set_other}
 use Rattle.bh_model.proofs.Equal.{same_or_not}
 use Rattle.std.proofs.Math.Nat.{div-div-eq-div-mul, pow-suc, pow-zero}
-use Rattle.octant_code.specs.Space.{IsInCube, Site, bit_at, key_of}
+use Rattle.octant_code.specs.Space.{IsInCube, Site, key_of}
 use Rattle.octant_code.proofs.Keys.{key-suc, key-zero, octant-bits}
 use Rattle.space_split.specs.Spreads.{octants_by, spread_of}
 

@@ -9,7 +9,6 @@ ghost use Rattle.bh_model.specs.Bodies.{numbers};
 ghost use Rattle.bh_model.specs.Plans.{HasWorkers};
 ghost use Rattle.octree.specs.Ranks.{body_of_rank};
 ghost use Rattle.space_split.specs.Sorted.{AreSorted, coded_in};
-ghost use Rattle.space_split.specs.Spreads.{AreSpreads};
 
 use crate::interleave::{code_of, spreads};
 use octant_code::{MOST_BODIES, OutOfMemory, Points};
@@ -41,10 +40,10 @@ pub fn sorted_bodies<R: Threads + Sync>(
     ensures { IfOk result (λ v. AreSorted points.now v.items) }
 {
     let _few = points.len();
-    let codes = codes_of(rt, alloc, points, workers)?;
+    let codes = codes_of(alloc, points)?;
     let mut ranks = ranks_of(alloc, &codes)?;
     sort_ranks(rt, ranks.as_mut_slice(), workers);
-    let mut bodies = coded_bodies(rt, alloc, &codes, &ranks, workers)?;
+    let mut bodies = coded_bodies(alloc, &codes, &ranks)?;
     bodies.sort_unstable_by_key(|b: &Coded| b.code);
     Ok(bodies)
 }
@@ -57,27 +56,16 @@ pub fn least_piece(count: usize, workers: u32) -> usize
     (count / workers as usize).max(1)
 }
 
-/// The codes of all points, by their numbers.
-fn codes_of<R: Threads + Sync>(
-    rt: &R,
-    alloc: Global,
-    points: &Points,
-    workers: u32,
-) -> Result<Vec<u64>, OutOfMemory>
-    requires { HasWorkers workers }
+/// The codes of all points, by their numbers. One thread makes them in less time than it takes to start
+/// others.
+fn codes_of(alloc: Global, points: &Points) -> Result<Vec<u64>, OutOfMemory>
     ensures { IfOk result (λ v. v.items ≡ map (λ n. key_of (site_at points.now n) 21) (numbers (length points.now))) }
 {
     let spreads = spreads();
-    let codes: Vec<u64> = (0..points.len())
-        .into_par_iter()
-        .with_min_len(least_piece(points.len() as usize, workers))
-        .map(
-            |n: u32| -> u64
-                requires { (n < length points.now) × AreSpreads spreads }
-                ensures { result ≡ key_of (site_at points.entry.now n) 21 }
-            { code_of(&spreads, points.at(n)) },
-        )
-        .collect(rt, alloc)?;
+    let mut codes: Vec<u64> = Vec::with_capacity(alloc, points.len() as usize)?;
+    for n in 0..points.len() {
+        codes.push(code_of(&spreads, points.at(n)))?;
+    }
     Ok(codes)
 }
 
@@ -119,33 +107,16 @@ fn sort_ranks<R: Threads + Sync>(rt: &R, ranks: &mut [u64], workers: u32)
 }
 
 /// The bodies of ranks with their codes, in the order of the ranks.
-fn coded_bodies<R: Threads + Sync>(
-    rt: &R,
-    alloc: Global,
-    codes: &[u64],
-    ranks: &[u64],
-    workers: u32,
-) -> Result<Vec<Coded>, OutOfMemory>
-    requires workers { HasWorkers workers }
-    requires known { All (λ r. body_of_rank r < length codes.now) ranks.now }
+fn coded_bodies(alloc: Global, codes: &[u64], ranks: &[u64]) -> Result<Vec<Coded>, OutOfMemory>
+    requires { All (λ r. body_of_rank r < length codes.now) ranks.now }
     ensures { IfOk result (λ v. v.items ≡ map (λ r. coded_in codes.now (body_of_rank r)) ranks.now) }
 {
-    let bodies: Vec<Coded> = ranks
-        .par_iter()
-        .with_min_len(least_piece(ranks.len(), workers))
-        .map(
-            |rank: &u64| -> Coded
-                requires { body_of_rank rank.now < length codes.now }
-                ensures { result ≡ coded_in codes.entry.now (body_of_rank rank.now) }
-            {
-                let body = body_of(*rank);
-                Coded {
-                    code: codes[body as usize],
-                    body,
-                }
-            },
-        )
-        .collect(rt, alloc)?;
+    let mut bodies: Vec<Coded> = Vec::with_capacity(alloc, ranks.len())?;
+    for rank in ranks {
+        let body = body_of(*rank);
+        let code = codes[body as usize];
+        bodies.push(Coded { code, body })?;
+    }
     Ok(bodies)
 }
 

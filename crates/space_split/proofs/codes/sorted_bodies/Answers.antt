@@ -48,8 +48,8 @@ ranks_of-requires g c =
     ap length c.in_ok-codes.ensures ∙ length-map (numbers n) (λ k. key_of (site_at c.args.points.now k) 21) ∙ length_numbers n in
     omega (arith, many, ap length c.deref.ensures.value, c.len-few.ensures.rule.few)
 
-pub coded_bodies-requires-clause-known : goal.coded_bodies-requires-clause-known
-coded_bodies-requires-clause-known g c κs h =
+pub coded_bodies-requires : goal.coded_bodies-requires
+coded_bodies-requires g c =
     subst (λ n. All (λ r. body_of_rank r < n) c.deref-3.result.now) (sym (ap length c.deref-2.ensures.value ∙ many g c)) (known g c)
 
 pub returns : goal.returns
