@@ -13,7 +13,7 @@ ghost use Rattle.shared_tree.specs.Seen.{entrusted, risen, IsOf};
 use crate::tree::{FreePass, FreeTree};
 use octant_code::{OutOfMemory, Points};
 use octree::Octree;
-use shared_tree::{YardParts, deal_region, open};
+use shared_tree::{YardParts, deal_region};
 use std::alloc::Global;
 use std::marker::Model;
 use std::sync::Arc;
@@ -63,8 +63,8 @@ impl FreeYard {
     /// entrusted with all bodies that are to be put in.
     ///
     /// The cells of the start that can't be reached are handed out, and new ones until there are 21 for
-    /// each body. The table takes 80 bytes for each cell that the start holds and each new one, twice:
-    /// once for its words, and once for those of the octree at the end.
+    /// each body. The table takes 80 bytes for each cell that the start holds and each new one, and the
+    /// yard keeps as many for the next tree. The octree at the end has room for as many.
     ///
     /// # Errors
     ///
@@ -89,7 +89,9 @@ impl FreeYard {
     {
         let _rule = points.len();
         let deal = deal_region(alloc, &start, todo.len())?;
-        let (tree, pass) = open(alloc, Writing::ByExchange, points, start, todo, deal)?;
+        let (tree, pass) = self
+            .parts
+            .open(alloc, Writing::ByExchange, points, start, todo, deal)?;
         Ok((FreeTree { parts: tree }, FreePass { parts: pass }))
     }
 

@@ -17,7 +17,7 @@ ghost use Rattle.locked_tree.specs.Pools.{AreDealtOut, HasRoom};
 use crate::tree::{LockedPass, LockedTree};
 use octant_code::{OutOfMemory, Points};
 use octree::Octree;
-use shared_tree::{Deal, YardParts, deal_region, open};
+use shared_tree::{Deal, YardParts, deal_region};
 use std::alloc::Global;
 use std::marker::Model;
 use std::sync::Arc;
@@ -101,7 +101,8 @@ impl LockedYard {
     /// With the shared pool the cells that the start holds and 21 for each body are together at most
     /// 1,376,256. With regions the cells of the start that can't be reached are handed out, and new ones
     /// until there are 21 for each body. The table takes 80 bytes for each cell that the start holds and
-    /// each new one, twice: once for its words, and once for those of the octree at the end.
+    /// each new one, and the yard keeps as many for the next tree. The octree at the end has room for as
+    /// many.
     ///
     /// # Errors
     ///
@@ -128,7 +129,9 @@ impl LockedYard {
     {
         let _rule = (points.len(), start.used());
         let deal = deal_out(alloc, pool, &start, todo.len())?;
-        let (tree, parts) = open(alloc, Writing::UnderLocks, points, start, todo, deal)?;
+        let (tree, parts) = self
+            .parts
+            .open(alloc, Writing::UnderLocks, points, start, todo, deal)?;
         Ok((LockedTree { parts: tree }, LockedPass { parts }))
     }
 

@@ -1,21 +1,20 @@
 -- Words that are copied from a closed table.
-use Rattle.std.proofs.Common.{◌≡◌, ℕ, zero, suc, ◌+◌, ◌<◌, ◌≤◌, List, [], ◌∷◌, ◌++◌, length, take, drop, set, refl, sym, ap, subst, ◌∙◌, inl, inr, arith, length-set, get_or-set_same, get_or-set_other}
+use Rattle.std.proofs.Common.{◌≡◌, ℕ, zero, suc, ◌+◌, ◌<◌, ◌≤◌, ◌↔◌, List, [], ◌∷◌, ◌++◌, length, take, drop, set, refl, sym, ap, subst, ◌∙◌, inl, inr, arith, length-set, get_or-set_same, get_or-set_other}
 use Rattle.std.proofs.lemmas.Bool.{cases_lt}
-use Rattle.std.proofs.lemmas.List.{get_or_past, get_or-take, length-take-le}
 use mathlib.Core.Option.{some, some-injective, some-ne-none}
 use lib.ListN.{get_elem?}
 use Rattle.octant_code.specs.Points.{site_at}
-use Rattle.tree_rule.specs.Words.{HasBody, HasCell, IsReached, at_of, body_word, cell_word, child_place, key_place, lock_place}
-use Rattle.tree_rule.specs.Sound.{BodiesUnder}
-use Rattle.tree_rule.proofs.Laws.{bodies_of_stands, key_positive_of}
-use Rattle.octree.specs.Stored.{AreOctreeWords, IsBlankFrom, tree_with_used, word_count}
+use Rattle.tree_rule.specs.Words.{HasBody, HasCell, at_of, child_place, key_place, lock_place}
+use Rattle.tree_rule.specs.Flat.{StandsFor}
+use Rattle.tree_rule.proofs.Laws.{bodies_of_stands, body_reached, cell_reached, key_positive_of, stands_moved, stands_same}
+use Rattle.octree.specs.Stored.{AreOctreeWords, full_tree, word_count}
 use Rattle.tree_passes.specs.declared.view.TheConstants.{ROW_WORDS}
 use Rattle.tree_rule.specs.declared.words.TheConstants.{POOL_PLACE}
 use Rattle.tree_passes.specs.Opening.{Opening}
 use Rattle.tree_passes.specs.declared.view.Writing.{Writing}
 use Rattle.tree_passes.specs.declared.view.Writing.TheVariants.{ByExchange, UnderLocks}
 use Rattle.tree_passes.specs.Ends.{AreGivenOut, IsClosed, NoneLocked}
-use Rattle.tree_passes.proofs.Laws.{closed_moved, octree_of_closed}
+use Rattle.tree_passes.proofs.Laws.{octree_of_closed}
 use Rattle.shared_tree.specs.Ends.{AreCopied, IsRowCopied, IsTreeAtEnd}
 
 -- the word at a place, as a closed table tells it
@@ -125,51 +124,53 @@ pub given_within : (ws : List ℕ) (w : Writing) (cells : ℕ) → (w ≡ ByExch
 given_within ws UnderLocks cells free given long = (given refl).within
 given_within ws ByExchange cells free given long = let t = (free refl cells long).third in omega arith
 
--- What the copied words are: an octree's, closed as the table's were, and 0 from some cell on.
-pub record AreBack (o : Opening) (done seen us : List ℕ) (used : ℕ) : Type 0 where
+-- What the copied words are: an octree's, and closed as the table's were.
+pub record AreBack (o : Opening) (done seen us : List ℕ) : Type 0 where
   pub closed : IsClosed o done seen us
   pub octree : AreOctreeWords us
-  pub blank : IsBlankFrom us used
 
-pub are_back : (o : Opening) (done seen ws old us : List ℕ) (used fresh : ℕ) → IsClosed o done seen ws → ((c : ℕ) → HasCell ws c → c < used)
-    → AreCopied ws old us used → length old ≡ length ws → IsBlankFrom old fresh → fresh ≤ used → AreBack o done seen us used
-are_back o done seen ws old us used fresh h below p long blank more =
-    let back : IsClosed o done seen us =
-    closed_moved o done seen ws us h (p.long ∙ long) p.root
+pub are_back : (o : Opening) (done seen ws old us : List ℕ) (used : ℕ) → IsClosed o done seen ws → ((c : ℕ) → HasCell ws c → c < used)
+    → AreCopied ws old us used → length old ≡ word_count used → word_count used ≤ length ws → AreBack o done seen us
+are_back o done seen ws old us used h below p long within =
+    let moved : StandsFor (site_at o.sites) (at_of us) (at_of us 0) 1 (HasCell ws) (HasBody ws) =
+    subst (λ (z : ℕ). StandsFor (site_at o.sites) (at_of us) z 1 (HasCell ws) (HasBody ws)) (sym p.root)
+    (stands_moved (site_at o.sites) (at_of ws) (at_of us) (at_of ws 0) 1 (HasCell ws) (HasBody ws)
     (λ c r.
     let e : key_place c ≡ child_place c 8 = omega arith in
     ap (at_of us) e ∙ p.rows c 8 (below c r) (omega arith) ∙ sym (ap (at_of ws) e))
-    (λ c k r l. p.rows c k (below c r) (omega arith)) in
-    let locks : (c : ℕ) → at_of us (lock_place c) ≡ 0 = λ c. elim (cases_lt c used) [
-      | inl l ↦ p.locks c l
-      | inr past ↦ p.rest (lock_place c) (omega arith) ∙ blank (lock_place c) (omega arith)
-    ] in
+    (λ c k r l. p.rows c k (below c r) (omega arith)) h.stand) in
+    let cells : (c : ℕ) → HasCell ws c ↔ HasCell us c = cell_reached (site_at o.sites) (at_of us) (at_of us 0) 1 (HasCell ws) (HasBody ws) moved in
+    let bodies : (x : ℕ) → HasBody ws x ↔ HasBody us x = body_reached (site_at o.sites) (at_of us) (at_of us 0) 1 (HasCell ws) (HasBody ws) moved in
+    let back : IsClosed o done seen us = record {
+      cells = used;
+      few = let f = h.few in let l = h.long in omega arith;
+      long = p.long ∙ long;
+      stand = stands_same (site_at o.sites) (at_of us) (at_of us 0) 1 (HasCell ws) (HasCell us) (HasBody ws) (HasBody us) cells bodies moved;
+      cells_held = λ c r. below c ((cells c).1 r);
+      bodies_in = λ x r. h.bodies_in x ((bodies x).1 r);
+      bodies_small = λ x r. h.bodies_small x ((bodies x).1 r);
+      bodies = λ x. ((λ r. (h.bodies x).0 ((bodies x).1 r)), (λ r. (bodies x).0 ((h.bodies x).1 r)));
+      seen_in = λ x r. (bodies x).0 (h.seen_in x r);
+      cells_stay = λ c r. (cells c).0 (h.cells_stay c r);
+      keys_stay = λ c r.
+          let e : key_place c ≡ child_place c 8 = omega arith in
+          ap (at_of us) e ∙ p.rows c 8 (below c (h.cells_stay c r)) (omega arith) ∙ sym (ap (at_of ws) e) ∙ h.keys_stay c r;
+    } in
     record {
       closed = back;
-      octree = octree_of_closed o done seen us back (record { second = p.second; third = p.third; locks = λ c l. locks c });
-      blank = λ i l. p.rest i l ∙ blank i (omega arith);
+      octree = octree_of_closed o done seen us back (record { second = p.second; third = p.third; locks = p.locks });
     }
 
 -- the octree of such words
-pub tree_at_end : (o : Opening) (done seen us : List ℕ) (used : ℕ) → AreBack o done seen us used → word_count used ≤ length us
-    → IsTreeAtEnd o done seen (tree_with_used us used)
-tree_at_end o done seen us used h within =
-    let same : (i : ℕ) → at_of us i ≡ at_of (take (word_count used) us) i = λ i. elim (cases_lt i (word_count used)) [
-      | inl l ↦ sym (get_or-take (word_count used) us i 0 l)
-      | inr past ↦ h.blank i past ∙ sym (get_or_past (take (word_count used) us) i 0 (let e = length-take-le (word_count used) us within in omega arith))
-    ] in
-    let at : at_of us ≡ at_of (take (word_count used) us) = λ k i. same i k in
-    let to : (x : ℕ) → HasBody us x → HasBody (take (word_count used) us) x = λ x r. subst (λ (z : ℕ → ℕ). IsReached z (z 0) (body_word x)) at r in
-    let from : (x : ℕ) → HasBody (take (word_count used) us) x → HasBody us x = λ x r. subst (λ (z : ℕ → ℕ). IsReached z (z 0) (body_word x)) (sym at) r in
-    record {
-      base = refl;
-      canonical = record {
-        under = subst (λ (z : ℕ → ℕ). BodiesUnder (site_at o.sites) z (z 0) 1) at
-            (bodies_of_stands (site_at o.sites) (at_of us) (at_of us 0) 1 (HasCell us) (HasBody us) h.closed.stand);
-        bodies_in = λ x r. h.closed.bodies_in x (from x r);
-      };
-      bodies = λ x. ((λ r. (h.closed.bodies x).0 (from x r)), (λ q. to x ((h.closed.bodies x).1 q)));
-      seen_in = λ x p. to x (h.closed.seen_in x p);
-      cells_stay = λ c r. subst (λ (z : ℕ → ℕ). IsReached z (z 0) (cell_word c)) at (h.closed.cells_stay c r);
-      keys_stay = λ c r. sym (same (key_place c)) ∙ h.closed.keys_stay c r;
-    }
+pub tree_at_end : (o : Opening) (done seen us : List ℕ) → AreBack o done seen us → IsTreeAtEnd o done seen (full_tree us)
+tree_at_end o done seen us h = record {
+  base = refl;
+  canonical = record {
+    under = bodies_of_stands (site_at o.sites) (at_of us) (at_of us 0) 1 (HasCell us) (HasBody us) h.closed.stand;
+    bodies_in = h.closed.bodies_in;
+  };
+  bodies = h.closed.bodies;
+  seen_in = h.closed.seen_in;
+  cells_stay = h.closed.cells_stay;
+  keys_stay = h.closed.keys_stay;
+}

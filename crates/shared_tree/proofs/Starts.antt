@@ -1,7 +1,7 @@
 -- The words and the cells that a tree is opened with.
-use Rattle.std.proofs.Common.{◌≡◌, ℕ, zero, suc, ◌+◌, ◌-◌, ◌*◌, ◌<◌, ◌≤◌, ◌⊎◌, List, [], ◌∷◌, ◌++◌, length, take, replicate, refl, sym, ap, subst, ◌∙◌, inl, inr, arith}
+use Rattle.std.proofs.Common.{◌≡◌, ℕ, zero, suc, ◌+◌, ◌-◌, ◌*◌, ◌<◌, ◌≤◌, ◌⊎◌, List, [], ◌∷◌, ◌++◌, length, take, set, replicate, refl, sym, ap, subst, ◌∙◌, inl, inr, arith, length-set, get_or-set_same, get_or-set_other}
 use Rattle.std.proofs.lemmas.Bool.{cases_lt}
-use Rattle.std.proofs.lemmas.List.{get_or_past, get_or-replicate, get_or-append_right, get_or_append_left, length-append, length-replicate, take_all}
+use Rattle.std.proofs.lemmas.List.{get_or_past, get_or-append_right, get_or_append_left, length-append}
 use Rattle.octant_code.specs.Space.{Site}
 use Rattle.octant_code.specs.Points.{ArePoints, site_at}
 use Rattle.bh_model.specs.Bodies.{IsIn, NoneTwice}
@@ -19,7 +19,7 @@ use Rattle.tree_passes.specs.Counting.{numbers_from}
 use Rattle.tree_passes.specs.Opening.{fresh_view, start_bodies}
 use Rattle.tree_passes.specs.Ends.{CanOpen, CanPool}
 use Rattle.tree_passes.proofs.Laws.{once_times, times_in}
-use Rattle.shared_tree.specs.Ends.{AreHandedOut, AreStartWords, Serves}
+use Rattle.shared_tree.specs.Ends.{AreHandedOut, AreStartWords, AreZeros, Serves}
 use Rattle.shared_tree.specs.Seen.{IsAtRest, IsInside}
 
 numbers_next : (from n : ℕ) → numbers_from from n ++ (from + n) ∷ [] ≡ numbers_from from (suc n)
@@ -47,18 +47,78 @@ pub numbers_once : (from n : ℕ) → NoneTwice (numbers_from from n)
 numbers_once from zero = tt
 numbers_once from (suc n) = ((λ p. let r = in_numbers (from + 1) n from p in let a = r.0 in absurd (omega arith)), numbers_once (from + 1) n)
 
+-- ---- lists of zeros
+
+pub zeros_many : (n : ℕ) → AreZeros (replicate n 0)
+zeros_many zero i = get_or_past [] i 0 (omega arith)
+zeros_many (suc n) zero = refl
+zeros_many (suc n) (suc i) = zeros_many n i
+
+zeros_take : (n : ℕ) (l : List ℕ) → AreZeros l → AreZeros (take n l)
+zeros_take zero l h i = get_or_past [] i 0 (omega arith)
+zeros_take (suc n) [] h i = get_or_past [] i 0 (omega arith)
+zeros_take (suc n) (x ∷ xs) h zero = h 0
+zeros_take (suc n) (x ∷ xs) h (suc i) = zeros_take n xs (λ k. h (suc k)) i
+
+zeros_append : (a b : List ℕ) → AreZeros a → AreZeros b → AreZeros (a ++ b)
+zeros_append [] b h more i = more i
+zeros_append (x ∷ xs) b h more zero = h 0
+zeros_append (x ∷ xs) b h more (suc i) = zeros_append xs b (λ k. h (suc k)) more i
+
+-- zeros that are cut, and filled up with zeros
+pub zeros_resized : (l us : List ℕ) (n m : ℕ) → AreZeros l → us ≡ take n l ++ replicate m 0 → AreZeros us
+zeros_resized l us n m h e = subst AreZeros (sym e) (zeros_append (take n l) (replicate m 0) (zeros_take n l h) (zeros_many m))
+
+-- The first so many words were made zeros, of those in front.
+pub record AreCleared (words : List ℕ) (count done : ℕ) : Type 0 where
+  pub long : count ≤ length words
+  pub low : (k : ℕ) → k < done → at_of words k ≡ 0
+  pub rest : (k : ℕ) → count ≤ k → at_of words k ≡ 0
+
+pub cleared_more : (words : List ℕ) (count i : ℕ) → AreCleared words count i → i < count → AreCleared (set words i 0) count (i + 1)
+cleared_more words count i h small =
+    let long = h.long in
+    record {
+      long = let t = length-set words i 0 in omega arith;
+      low = λ k l. elim (cases_lt k i) [
+        | inl less ↦ get_or-set_other words i k 0 0 (omega arith) ∙ h.low k less
+        | inr same ↦ let e : k ≡ i = omega arith in ap (at_of (set words i 0)) e ∙ get_or-set_same words i 0 0 (omega arith)
+      ];
+      rest = λ k l. get_or-set_other words i k 0 0 (omega arith) ∙ h.rest k l;
+    }
+
+pub all_cleared : (words : List ℕ) (count i : ℕ) → AreCleared words count i → count ≤ i → AreZeros words
+all_cleared words count i h all k = elim (cases_lt k count) [ inl l ↦ h.low k (omega arith) | inr past ↦ h.rest k past ]
+
+-- The first so many words of a list were written over zeros.
+pub record AreWritten (front before words : List ℕ) (done : ℕ) : Type 0 where
+  pub long : length words ≡ length before
+  pub low : (k : ℕ) → k < done → at_of words k ≡ at_of front k
+  pub rest : (k : ℕ) → done ≤ k → at_of words k ≡ 0
+
+pub written_more : (front before words : List ℕ) (i w : ℕ) → AreWritten front before words i → i < length before → w ≡ at_of front i
+    → AreWritten front before (set words i w) (i + 1)
+written_more front before words i w h inside is =
+    let long = h.long in
+    record {
+      long = length-set words i w ∙ h.long;
+      low = λ k l. elim (cases_lt k i) [
+        | inl less ↦ get_or-set_other words i k w 0 (omega arith) ∙ h.low k less
+        | inr same ↦
+            let e : k ≡ i = omega arith in ap (at_of (set words i w)) e ∙ get_or-set_same words i w 0 (omega arith) ∙ is ∙ sym (ap (at_of front) e)
+      ];
+      rest = λ k l. get_or-set_other words i k w 0 (omega arith) ∙ h.rest k (omega arith);
+    }
+
+pub all_written : (front before words : List ℕ) (i : ℕ) → AreWritten front before words i → length front ≤ i → (k : ℕ) → at_of words k ≡ at_of front k
+all_written front before words i h all k = elim (cases_lt k i) [ inl l ↦ h.low k l | inr past ↦ h.rest k past ∙ sym (get_or_past front k 0 (omega arith)) ]
+
 -- words that are followed by zeros say the same
 pub longer_same : (words : List ℕ) (n i : ℕ) → at_of (words ++ replicate n 0) i ≡ at_of words i
 longer_same words n i = elim (cases_lt i (length words)) [
   | inl l ↦ get_or_append_left words (replicate n 0) 0 i l
-  | inr past ↦ get_or-append_right words (replicate n 0) (length words) i 0 refl past ∙ zeros (i - length words) ∙ sym (get_or_past words i 0 past)
+  | inr past ↦ get_or-append_right words (replicate n 0) (length words) i 0 refl past ∙ zeros_many n (i - length words) ∙ sym (get_or_past words i 0 past)
 ]
-  where
-    zeros : (k : ℕ) → at_of (replicate n 0) k ≡ 0
-    zeros k = elim (cases_lt k n) [
-      | inl l ↦ get_or-replicate n k 0 0 l
-      | inr past ↦ get_or_past (replicate n 0) k 0 (let e = length-replicate {A = ℕ} n 0 in omega arith)
-    ]
 
 -- and are an octree's as well
 longer_octree : (words us : List ℕ) (cells : ℕ) → AreOctreeWords words → length words ≤ length us → length us ≡ word_count cells → cells ≤ MOST_CELLS
@@ -85,22 +145,17 @@ longer_octree words us cells h more long few same =
       bodies_small = λ x r. h.bodies_small x (subst (λ (z : ℕ → ℕ). IsReached z (z 0) (body_word x)) (sym at) r);
     }
 
--- the words of a start, filled up with zeros
-pub start_words_are : (o : Stored) (words us : List ℕ) (cells n m : ℕ) → IsStored o → AreOctreeWords words → ((i : ℕ) → at_of words i ≡ at_of o.words i)
-    → IsBlankFrom words o.used → length words ≡ word_count o.held → o.held ≤ cells → cells ≤ MOST_CELLS → n ≡ word_count cells → m ≡ length words
-    → us ≡ take n words ++ replicate (n - m) 0 → AreStartWords o us cells
-start_words_are o words us cells n m rule h same blank long more few is_n is_m e =
-    let filled : us ≡ words ++ replicate (n - m) 0 = e ∙ ap (λ (z : List ℕ). z ++ replicate (n - m) 0) (take_all n words (omega arith)) in
-    let count : length us ≡ word_count cells =
-    let a = ap length filled in let b = length-append words (replicate (n - m) 0) in let d = length-replicate {A = ℕ} (n - m) 0 in omega arith in
-    let at : (i : ℕ) → at_of us i ≡ at_of words i = λ i. ap (λ (z : List ℕ). at_of z i) filled ∙ longer_same words (n - m) i in
-    record {
-      rule = rule;
-      octree = longer_octree words us cells h (omega arith) count few at;
-      long = count;
-      same = λ i. at i ∙ same i;
-      blank = λ i p. at i ∙ blank i p;
-    }
+-- the words of a start, over zeros
+pub start_words_are : (o : Stored) (words us : List ℕ) (cells : ℕ) → IsStored o → AreOctreeWords words → ((i : ℕ) → at_of words i ≡ at_of o.words i)
+    → IsBlankFrom words o.used → length words ≡ word_count o.held → o.held ≤ cells → cells ≤ MOST_CELLS → length us ≡ word_count cells
+    → ((i : ℕ) → at_of us i ≡ at_of words i) → AreStartWords o us cells
+start_words_are o words us cells rule h same blank long more few count at = record {
+  rule = rule;
+  octree = longer_octree words us cells h (omega arith) count few at;
+  long = count;
+  same = λ i. at i ∙ same i;
+  blank = λ i p. at i ∙ blank i p;
+}
 
 -- what is read in a start's words is read in the start
 start_body : (o : Stored) (words : List ℕ) (cells x : ℕ) → AreStartWords o words cells → HasBody words x → HasBody o.words x

@@ -38,6 +38,10 @@ pub record Serves (start : Stored) (region : List ℕ) (cells first quota : ℕ)
   pub sum : cells ≡ first + quota
   pub start_given : start.held ≤ first
 
+-- all words are 0
+abbrev pub AreZeros : List ℕ → Type 0
+AreZeros words = (i : ℕ) → at_of words i ≡ 0
+
 -- The words are those of an octree, and 0 from its used cells on to so many cells.
 pub record AreStartWords (start : Stored) (words : List ℕ) (cells : ℕ) : Type 0 where
   pub rule : IsStored start

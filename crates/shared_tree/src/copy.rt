@@ -1,6 +1,6 @@
 //! The words of a closed table, copied back into an octree's.
 
-ghost use Rattle.std.specs.Prelude.{◌≡◌, ℕ, ◌+◌, ◌<◌, ◌≤◌, length};
+ghost use Rattle.std.specs.Prelude.{◌≡◌, ℕ, ◌+◌, ◌<◌, ◌≤◌, length, vec_capacity};
 ghost use Rattle.std.specs.Slots.{slots_items, slots_len, IsFull};
 ghost use Rattle.tree_rule.specs.Words.{at_of, key_place};
 ghost use Rattle.octree.specs.Stored.{word_count};
@@ -39,7 +39,7 @@ fn written_cells(closed: &Closed<(), Global>, cells: u32) -> u32
 #[inline]
 fn copy_cell(closed: &Closed<(), Global>, out: &mut [u64], cell: u32)
     requires full { IsFull closed.now.words }
-    requires long { slots_len closed.now.words ≡ length out.old }
+    requires long { length out.old ≤ slots_len closed.now.words }
     requires inside { word_count (cell + 1) ≤ length out.old }
     ensures { IsRowCopied (slots_items closed.now.words) out.old out.new cell }
 {
@@ -53,7 +53,7 @@ fn copy_cell(closed: &Closed<(), Global>, out: &mut [u64], cell: u32)
 // Copies the root word and the words of the first cells; locks and the pool word become 0.
 fn copy_cells(closed: &Closed<(), Global>, out: &mut [u64], cells: u32)
     requires full { IsFull closed.now.words }
-    requires long { slots_len closed.now.words ≡ length out.old }
+    requires long { length out.old ≤ slots_len closed.now.words }
     requires inside { word_count cells ≤ length out.old }
     ensures { AreCopied (slots_items closed.now.words) out.old out.new cells }
 {
@@ -83,6 +83,18 @@ fn used_cells(closed: &Closed<(), Global>, cells: u32) -> u32
     }
 }
 
+// A list with so many words, for which it has room.
+fn resized(room: Vec<u64>, count: usize) -> Vec<u64>
+    requires { count ≤ vec_capacity room }
+    ensures { length result.items ≡ count }
+{
+    let mut words = room;
+    match words.resize(count, 0) {
+        Ok(()) => words,
+        Err(_) => unreachable!(),
+    }
+}
+
 /// Closes a tree with a pass that is entrusted with all that the tree was opened with. It takes no
 /// memory.
 pub fn close_parts(tree: TreeParts, pass: PassParts) -> Octree
@@ -90,16 +102,12 @@ pub fn close_parts(tree: TreeParts, pass: PassParts) -> Octree
     requires all { (x : ℕ) → times x tree.opening.todo ≡ times x (entrusted (seen_of pass)) }
     ensures { IsTreeAtEnd tree.opening pass.view.done pass.view.seen result }
 {
-    let TreeParts {
-        table,
-        mut words,
-        fresh,
-        ..
-    } = tree;
+    let TreeParts { table, room, .. } = tree;
+    let cells = ((table.word_count() - FIRST_PLACE) / CELL_WORDS) as u32;
     let closed = close(table, pass.seat);
-    let cells = ((words.len() - FIRST_PLACE) / CELL_WORDS) as u32;
-    let used = used_cells(&closed, cells).max(fresh);
+    let used = used_cells(&closed, cells);
+    let mut words = resized(room, place_of_child(used, 0));
     copy_cells(&closed, &mut words, used);
     closed.free();
-    Octree::with_used(words, used)
+    Octree::of_words(words)
 }

@@ -18,6 +18,6 @@ pub use merge::{Merged, merge_part};
 pub use parts::{PassParts, TreeParts};
 pub use publisher::{Batched, Publisher, Spot, publish};
 pub use search::find;
-pub use start::{Deal, deal_region, open};
+pub use start::{Deal, deal_region};
 pub use subtrees::{Copied, copy_part};
 pub use yard::YardParts;

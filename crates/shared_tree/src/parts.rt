@@ -8,7 +8,7 @@ ghost use Rattle.octant_code.specs.Space.{IsUnder};
 ghost use Rattle.bh_model.specs.Blocks.{blocks};
 ghost use Rattle.bh_model.specs.Bodies.{NoneTwice};
 ghost use Rattle.bh_model.specs.Trees.{cell_count, order};
-ghost use Rattle.octree.specs.Stored.{IsBlankFrom, IsCanonical, tree_of, word_count};
+ghost use Rattle.octree.specs.Stored.{IsCanonical, tree_of};
 ghost use Rattle.tree_rule.specs.Words.{body_word, HasBody};
 ghost use Rattle.tree_rule.specs.declared.words.TheConstants.{CELLS_OF_ONE, POOL_PLACE};
 ghost use Rattle.tree_passes.specs.declared.view.Writing.TheVariants.{UnderLocks};
@@ -39,21 +39,18 @@ use tree_rule::CELLS_OF_ONE;
 /// have the lowest numbers and stand together in the table, and most scenes need no more.
 const LOW_CELLS_OF_ONE: usize = 2;
 
-/// What a shared tree is made of: its table, its points, and the words to which closing copies those of
-/// the table. Contracts see it as a `SharedTree`.
+/// What a shared tree is made of: its table, its points, and an empty list with room for the words that
+/// closing copies out of the table. Contracts see it as a `SharedTree`.
 #[derive(Drop)]
 pub struct TreeParts {
     pub(crate) table: Tree,
     pub(crate) points: Arc<Points>,
-    pub(crate) words: Vec<u64>,
-    // from this cell on the words are 0
-    pub(crate) fresh: u32,
+    pub(crate) room: Vec<u64>,
 }
 
 impl Model for TreeParts {
-    ghost use Rattle.std.specs.Prelude.{◌≡◌, ◌≤◌, length};
+    ghost use Rattle.std.specs.Prelude.{◌≡◌, ◌≤◌, vec_capacity};
     ghost use Rattle.std.specs.Arc.{arc_value};
-    ghost use Rattle.octree.specs.Stored.{IsBlankFrom, word_count};
     ghost use Rattle.tree_passes.specs.Opening.{opening_of};
     ghost use Rattle.shared_tree.specs.Seen.{IsInside, SharedTree};
 
@@ -61,7 +58,7 @@ impl Model for TreeParts {
 
     ghost view = { λ t. record { writing = t.table.shared.key.writing; table_id = t.table.shared.table_id; opening = opening_of t.table.shared.key } };
 
-    ghost invariant = { λ t. (t.table.shared.table_id.slots ≡ 0) × (arc_value t.points ≡ (opening_of t.table.shared.key).sites) × (length t.words.items ≡ t.table.shared.table_id.words) × IsBlankFrom t.words.items t.fresh × (word_count t.fresh ≤ length t.words.items) × IsInside (opening_of t.table.shared.key) };
+    ghost invariant = { λ t. (t.table.shared.table_id.slots ≡ 0) × (arc_value t.points ≡ (opening_of t.table.shared.key).sites) × (t.table.shared.table_id.words ≤ vec_capacity t.room) × IsInside (opening_of t.table.shared.key) };
 }
 
 /// What a pass is made of: its seat, its region, how many bodies it put in, and how often it published,

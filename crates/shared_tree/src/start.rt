@@ -1,6 +1,6 @@
 //! How shared trees begin.
 
-ghost use Rattle.std.specs.Prelude.{◌≡◌, ℕ, [], ◌+◌, ◌*◌, ◌++◌, ◌<◌, ◌≤◌, length, slice_set, IfOk, OnOk};
+ghost use Rattle.std.specs.Prelude.{◌≡◌, ℕ, [], ◌+◌, ◌*◌, ◌++◌, ◌<◌, ◌≤◌, length, slice_set, IfOk, OnErr, OnOk};
 ghost use Rattle.std.specs.Arc.{arc_value};
 ghost use Rattle.octant_code.specs.declared.limits.TheConstants.{MOST_BODIES};
 ghost use Rattle.bh_model.specs.Bodies.{IsIn, NoneTwice};
@@ -12,7 +12,7 @@ ghost use Rattle.tree_passes.specs.declared.view.Writing.TheVariants.{ByExchange
 ghost use Rattle.tree_passes.specs.Counting.{numbers_from};
 ghost use Rattle.tree_passes.specs.Ends.{CanOpen, CanPool};
 ghost use Rattle.tree_passes.specs.Opening.{all_bodies, fresh_view, opening_of};
-ghost use Rattle.shared_tree.specs.Ends.{AreHandedOut, AreStartWords, Serves};
+ghost use Rattle.shared_tree.specs.Ends.{AreHandedOut, AreStartWords, AreZeros, Serves};
 ghost use Rattle.shared_tree.specs.Seen.{seen_of};
 
 use crate::parts::{PassParts, TreeParts};
@@ -72,16 +72,42 @@ pub fn deal_region(alloc: Global, start: &Octree, bodies: usize) -> Result<Deal,
     })
 }
 
-// The words of a start, with those of so many cells.
-fn start_words(start: Octree, cells: u32) -> Result<Vec<u64>, OutOfMemory>
+// Writes words over the first zeros of a list.
+fn write_front(zeros: &mut Vec<u64>, front: &[u64])
+    requires zeros { AreZeros zeros.old.items }
+    requires long { length front.now ≤ length zeros.old.items }
+    ensures long { length zeros.new.items ≡ length zeros.old.items }
+    ensures written { (i : ℕ) → at_of zeros.new.items i ≡ at_of front.now i }
+{
+    for i in 0..front.len() {
+        zeros[i] = front[i];
+    }
+}
+
+// Makes so many words in front zeros again.
+fn clear_front(words: &mut Vec<u64>, count: usize)
+    requires long { count ≤ length words.old.items }
+    requires rest { (i : ℕ) → count ≤ i → at_of words.old.items i ≡ 0 }
+    ensures { AreZeros words.new.items }
+{
+    for i in 0..count {
+        words[i] = 0;
+    }
+}
+
+// Writes the words of a start over zeros, with those of so many cells. Zeros that are there stay.
+fn write_start(zeros: &mut Vec<u64>, start: Octree, cells: u32) -> Result<(), OutOfMemory>
+    requires zeros { AreZeros zeros.old.items }
     requires base { start.base ≡ 1 }
     requires held { start.held ≤ cells }
     requires few { cells ≤ MOST_CELLS }
-    ensures { IfOk result (λ v. AreStartWords start v.items cells) }
+    ensures refused { OnErr result (AreZeros zeros.new.items) }
+    ensures written { OnOk result (AreStartWords start zeros.new.items cells) }
 {
-    let mut words = start.into_words();
-    words.resize(place_of_child(cells, 0), 0)?;
-    Ok(words)
+    let words = start.into_words();
+    zeros.resize(place_of_child(cells, 0), 0)?;
+    write_front(zeros, &words);
+    Ok(())
 }
 
 // The table of these words, written in one way or the other, and its first pass.
@@ -117,35 +143,62 @@ fn open_table(
     }
 }
 
-// The parts of a tree with these words, and of the pass that is entrusted with all bodies.
+// The same, and the words are zeros then.
+fn open_cleared(
+    alloc: Global,
+    writing: Writing,
+    points: &Points,
+    words: &mut Vec<u64>,
+    fresh: u32,
+    todo: &Vec<u32>,
+    deal: &Deal,
+) -> Result<(Tree, Pass), OutOfMemory>
+    requires opens { CanOpen points.now words.old.items todo.now.items deal.now.region.items }
+    requires pool { CanPool words.old.items deal.now.region.items deal.now.pool deal.now.quota }
+    requires quota { writing ≡ ByExchange → deal.now.quota ≡ 0 }
+    requires fresh { IsBlankFrom words.old.items fresh × (word_count fresh ≤ length words.old.items) }
+    ensures zeros { AreZeros words.new.items }
+    ensures writing { IfOk result (λ r. r.0.shared.key.writing ≡ writing) }
+    ensures opening { IfOk result (λ r. opening_of r.0.shared.key ≡ record { sites = points.now; words = words.old.items; todo = todo.now.items }) }
+    ensures counts { IfOk result (λ r. (r.0.shared.table_id.words ≡ length words.old.items) × (r.0.shared.table_id.slots ≡ 0)) }
+    ensures pass { IfOk result (λ r. (r.1.table_id ≡ r.0.shared.table_id) × (r.1.me ≡ (fresh_view (opening_of r.0.shared.key) deal.now.region.items deal.now.quota todo.now.items, []))) }
+{
+    let opened = open_table(alloc, writing, points, words, todo, deal);
+    clear_front(words, place_of_child(fresh, 0));
+    opened
+}
+
+// The parts of a tree with these words, which are zeros then, and of the pass that is entrusted with all
+// bodies.
 fn begin(
     alloc: Global,
     writing: Writing,
     points: Arc<Points>,
-    mut words: Vec<u64>,
+    words: &mut Vec<u64>,
     fresh: u32,
     todo: &Vec<u32>,
     deal: Deal,
 ) -> Result<(TreeParts, PassParts), OutOfMemory>
-    requires opens { CanOpen (arc_value points) words.items todo.now.items deal.region.items }
-    requires pool { CanPool words.items deal.region.items deal.pool deal.quota }
+    requires opens { CanOpen (arc_value points) words.old.items todo.now.items deal.region.items }
+    requires pool { CanPool words.old.items deal.region.items deal.pool deal.quota }
     requires quota { writing ≡ ByExchange → deal.quota ≡ 0 }
-    requires fresh { IsBlankFrom words.items fresh × (word_count fresh ≤ length words.items) }
+    requires fresh { IsBlankFrom words.old.items fresh × (word_count fresh ≤ length words.old.items) }
     requires enough { CELLS_OF_ONE * length todo.now.items ≤ length deal.region.items + deal.quota }
     requires few { length deal.region.items + deal.quota ≤ MOST_CELLS }
+    ensures zeros { AreZeros words.new.items }
     ensures writing { IfOk result (λ r. r.0.writing ≡ writing) }
-    ensures opening { IfOk result (λ r. r.0.opening ≡ record { sites = arc_value points; words = words.items; todo = todo.now.items }) }
-    ensures pass { IfOk result (λ r. r.1 ≡ record { table_id = r.0.table_id; view = fresh_view (record { sites = arc_value points; words = words.items; todo = todo.now.items }) deal.region.items deal.quota todo.now.items; cells = deal.region.items }) }
+    ensures opening { IfOk result (λ r. r.0.opening ≡ record { sites = arc_value points; words = words.old.items; todo = todo.now.items }) }
+    ensures pass { IfOk result (λ r. r.1 ≡ record { table_id = r.0.table_id; view = fresh_view (record { sites = arc_value points; words = words.old.items; todo = todo.now.items }) deal.region.items deal.quota todo.now.items; cells = deal.region.items }) }
 {
-    let (table, seat) = open_table(alloc, writing, &points, &mut words, todo, &deal)?;
+    let (table, seat) = open_cleared(alloc, writing, &points, words, fresh, todo, &deal)?;
     let Deal { region, quota, .. } = deal;
     let mut region = Region::of(region);
     region.reserve(quota as usize)?;
+    let room = Vec::with_capacity(alloc, table.word_count())?;
     let tree = TreeParts {
         table,
         points,
-        words,
-        fresh,
+        room,
     };
     let pass = PassParts {
         seat,
@@ -157,7 +210,8 @@ fn begin(
 }
 
 /// Opens a tree with a start and bodies that are to be put in, whose cells are dealt out so, and the
-/// pass that is entrusted with them.
+/// pass that is entrusted with them. The list of zeros becomes as long as the table, and what is written
+/// into it are zeros again at the end: so whoever keeps it writes them once.
 ///
 /// # Errors
 ///
@@ -169,6 +223,7 @@ pub fn open(
     start: Octree,
     todo: &[u32],
     deal: Deal,
+    zeros: &mut Vec<u64>,
 ) -> Result<(TreeParts, PassParts), OutOfMemory>
     requires base { start.base ≡ 1 }
     requires canonical { IsCanonical (arc_value points.now) start }
@@ -178,6 +233,8 @@ pub fn open(
     requires deal { Serves start deal.region.items deal.cells deal.pool deal.quota }
     requires quota { writing ≡ ByExchange → deal.quota ≡ 0 }
     requires enough { CELLS_OF_ONE * length todo.now ≤ length deal.region.items + deal.quota }
+    requires zeros { AreZeros zeros.old.items }
+    ensures zeros { AreZeros zeros.new.items }
     ensures writing { IfOk result (λ r. r.0.writing ≡ writing) }
     ensures points { IfOk result (λ r. r.0.opening.sites ≡ arc_value points.now) }
     ensures words { IfOk result (λ r. (i : ℕ) → at_of r.0.opening.words i ≡ at_of start.words i) }
@@ -187,7 +244,8 @@ pub fn open(
 {
     let _rule = points.len();
     let fresh = start.used();
-    let words = start_words(start, deal.cells)?;
     let bodies = todo.to_vec(alloc)?;
-    begin(alloc, writing, points.clone()?, words, fresh, &bodies, deal)
+    let shared = points.clone()?;
+    write_start(zeros, start, deal.cells)?;
+    begin(alloc, writing, shared, zeros, fresh, &bodies, deal)
 }

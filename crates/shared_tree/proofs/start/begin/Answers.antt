@@ -13,13 +13,13 @@ use Rattle.shared_tree.proofs.start.begin.Goals as goal
 
 -- what the tree is opened with
 abbrev opened : (c : In_ok-table) → Opening
-opened c = record { sites = arc_value c.args.points; words = c.args.words.items; todo = c.args.todo.now.items }
+opened c = record { sites = arc_value c.args.points; words = c.args.words.now.items; todo = c.args.todo.now.items }
 
 -- what the table was opened with
 opened_is : (c : In_ok-table) → opening_of c.in_ok-table.table.shared.key ≡ opened c
 opened_is c =
     c.in_ok-table.ensures.opening
-    ∙ ap (λ (z : List Site). record { sites = z; words = c.args.words.items; todo = c.args.todo.now.items }) c.deref.ensures
+    ∙ ap (λ (z : List Site). record { sites = z; words = c.args.words.now.items; todo = c.args.todo.now.items }) c.deref.ensures
 
 -- the view of the first pass
 view : (c : In_ok-table) → c.in_ok-table.seat.me.0 ≡ fresh_view (opened c) c.args.deal.region.items c.args.deal.quota c.args.todo.now.items
@@ -30,12 +30,10 @@ view c =
 pub invariant_of-tree : goal.invariant_of-tree
 invariant_of-tree c =
     let e = c.in_ok-table.ensures in
-    let inside = opened_inside (arc_value c.args.points) c.args.words.items c.args.todo.now.items c.args.deal.region.items c.requires.opens in (
+    let inside = opened_inside (arc_value c.args.points) c.args.words.now.items c.args.todo.now.items c.args.deal.region.items c.requires.opens in (
       e.counts.1,
       sym (ap (λ (o : Opening). o.sites) e.opening ∙ c.deref.ensures),
-      e.long ∙ sym e.counts.0,
-      e.blank c.args.fresh c.requires.fresh.0,
-      omega (arith, e.long, c.requires.fresh.1),
+      omega (arith, c.word_count.ensures, c.in_ok-room.ensures.capacity),
       subst IsInside (sym (opened_is (goal.at.invariant_of-tree c).In_ok-table)) inside,
     )
 
@@ -49,7 +47,7 @@ invariant_of-pass c =
     let r = c.requires.opens in
     let d = (goal.at.invariant_of-pass c).In_ok-table in
     let few : length todo ≤ MOST_BODIES = omega (arith, few_below (length (arc_value c.args.points)) todo r.todo_once r.todo_in, r.points.few) in
-    let words : c.in_ok-table.seat.table_id.words ≡ length c.args.words.items = ap (λ z. z.words) e.pass.0 ∙ e.counts.0 in
+    let words : c.in_ok-table.seat.table_id.words ≡ length c.args.words.now.items = ap (λ z. z.words) e.pass.0 ∙ e.counts.0 in
     let count = length c.args.deal.region.items + c.args.deal.quota in
     let cells : c.reserve.new.self.cells ≡ c.args.deal.region.items = ap (λ (z : Free). z.cells) c.in_ok-reserve.ensures.room ∙ c.of-region.ensures.cells in
     let room : c.reserve.new.self.room ≡ count =
@@ -57,5 +55,5 @@ invariant_of-pass c =
       ap (λ z. z.1) e.pass.1,
       subst (λ (z : View). IsCounted z 0 0) (sym (view d)) (record { todo_few = few; bodies = refl; publications = refl }),
       subst (λ (z : View × ℕ × List ℕ × ℕ). IsAtRest z.0 z.1 z.2 z.3) (λ i. (sym (view d) i, sym words i, sym cells i, sym room i))
-          (rest_begun (arc_value c.args.points) c.args.words.items todo c.args.deal.region.items c.args.deal.quota r c.requires.enough),
+          (rest_begun (arc_value c.args.points) c.args.words.now.items todo c.args.deal.region.items c.args.deal.quota r c.requires.enough),
     )

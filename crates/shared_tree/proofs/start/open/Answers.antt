@@ -17,13 +17,13 @@ begin-requires-clause-opens c =
     let at = goal.at.begin-requires-clause-opens c in
     let r = c.requires in
     let d = c.args.deal in
-    let words = c.in_ok-words.words.items in
-    subst (λ (z : List Site × List ℕ). CanOpen z.0 words z.1 d.region.items) (λ i. (sym c.in_ok-clone.ensures.cases i, sym (listed at.In_ok-bodies) i))
+    let words = c.write_start.new.zeros.items in
+    subst (λ (z : List Site × List ℕ). CanOpen z.0 words z.1 d.region.items) (λ i. (sym c.in_ok-shared.ensures.cases i, sym (listed at.In_ok-bodies) i))
     (can_open (arc_value c.args.points.now) c.args.start words c.args.todo.now d.region.items d.cells d.pool d.quota
-    (subst ArePoints c.deref.ensures c.len-rule.ensures.rule) r.base r.canonical c.in_ok-words.ensures r.todo_once r.todo_in r.todo_fresh r.deal)
+    (subst ArePoints c.deref.ensures c.len-rule.ensures.rule) r.base r.canonical c.in_ok-write_start.ensures.written r.todo_once r.todo_in r.todo_fresh r.deal)
 
 pub begin-requires-clause-pool : goal.begin-requires-clause-pool
-begin-requires-clause-pool c = can_pool c.args.start _ _ _ _ _ c.in_ok-words.ensures c.requires.deal
+begin-requires-clause-pool c = can_pool c.args.start _ _ _ _ _ c.in_ok-write_start.ensures.written c.requires.deal
 
 pub begin-requires-clause-few : goal.begin-requires-clause-few
 begin-requires-clause-few c =
