@@ -15,14 +15,13 @@ use Rattle.tree_rule.specs.Words.{Below, HasBody, HasCell, Here, IsReached, at_o
 use Rattle.tree_rule.specs.Naming.{NamesAs}
 use Rattle.tree_rule.specs.declared.words.Named.{Named}
 use Rattle.tree_rule.specs.declared.words.Named.TheVariants.{Nothing, Body, Cell}
-use Rattle.octree.specs.Stored.{word_count}
-use Rattle.update_build.specs.Contracting.{AreContracted, AreDone, AreShared, AreThinned, CellLeft, HaveFewerCells, InChild, IsDoneAt, IsInCubeOf, IsLeft, ItsOwn}
-use Rattle.update_build.specs.Contracting.{NoneLeft, OneLeft, TwoLeft, key_in_words}
+use Rattle.update_build.specs.Contracting.{AreContracted, AreDone, AreShared, AreThinned, CellLeft, HaveFewerCells, InChild, IsChildKey, IsDoneAt, IsDoneIn}
+use Rattle.update_build.specs.Contracting.{IsInCubeOf, IsLeft, IsOutside, ItsOwn, NoneLeft, OneLeft, TwoLeft, key_in_words}
 
 -- ---- keys
 
 -- a key is at least that of each cube around its own
-below_grows : (upper key : ℕ) → IsInCubeOf upper key → upper ≤ key
+pub below_grows : (upper key : ℕ) → IsInCubeOf upper key → upper ≤ key
 below_grows upper _ (ItsOwn key e) = omega arith
 below_grows upper _ (InChild parent k key h l e) = omega (arith, below_grows upper parent h)
 
@@ -110,10 +109,10 @@ key_in site at top base P B V h key w _ x (Below c k v s l e) =
 
 -- ---- cells that are done
 
-fewer_none : (words : List ℕ) → HaveFewerCells words words
+pub fewer_none : (words : List ℕ) → HaveFewerCells words words
 fewer_none words = record { len = refl; cells = λ c h. h; bodies = λ n. ((λ b. b), (λ b. b)); others = λ i d e. refl }
 
-fewer_then : (a b c : List ℕ) → HaveFewerCells a b → HaveFewerCells b c → HaveFewerCells a c
+pub fewer_then : (a b c : List ℕ) → HaveFewerCells a b → HaveFewerCells b c → HaveFewerCells a c
 fewer_then a b c f g = record {
   len = g.len ∙ f.len;
   cells = λ d h. f.cells d (g.cells d h);
@@ -126,11 +125,32 @@ pub key_stays : (before after : List ℕ) → HaveFewerCells before after → (d
 key_stays before after f d = f.others (key_place d) (λ e. omega arith) (λ c k l e. omega arith)
 
 -- what was shared is shared still
-shared_on : (sites : List Site) (before after : List ℕ) (key : ℕ) → HaveFewerCells before after → AreShared sites before key → AreShared sites after key
+pub shared_on : (sites : List Site) (before after : List ℕ) (key : ℕ) → HaveFewerCells before after → AreShared sites before key → AreShared sites after key
 shared_on sites before after key f s d h below =
     let same : key_in_words after d ≡ key_in_words before d = key_stays before after f d in
     subst (λ (y : ℕ). IsShared (site_at sites) (HasBody after) y) (sym same)
     (shared_more (λ n b. (f.bodies n).1 b) (s d (f.cells d h) (subst (λ (y : ℕ). IsInCubeOf key y) same below)))
+
+-- a place outside stays
+pub place_kept : (sites : List Site) (before after : List ℕ) (Done : ℕ → Type 0) → IsDoneIn sites before after Done → (key place : ℕ)
+    → IsPlaceOf (at_of before) 0 1 (HasCell before) key place → IsOutside Done key → IsPlaceOf (at_of after) 0 1 (HasCell after) key place
+place_kept sites before after Done done key place (TopPlace k e) off = TopPlace k e
+place_kept sites before after Done done key place (ChildPlace d j p l k e) off =
+    ChildPlace d j (done.stays d p (λ q f b. off q f (InChild (key_in_words before d) j key b l k))) l
+    (k ∙ ap (λ y. 8 * y + j) (sym (key_stays before after done.fewer d))) e
+
+-- one after another
+pub done_then : (sites : List Site) (a b c : List ℕ) (P Q R : ℕ → Type 0) → IsDoneIn sites a b P → IsDoneIn sites b c Q → ((q : ℕ) → R q → P q ⊎ Q q)
+    → ((key : ℕ) → IsOutside R key → IsOutside P key) → ((key : ℕ) → IsOutside R key → IsOutside Q key) → IsDoneIn sites a c R
+done_then sites a b c P Q R f g one off_p off_q = record {
+  thinned = g.thinned;
+  fewer = fewer_then a b c f.fewer g.fewer;
+  stays = λ d has off. g.stays d (f.stays d has (off_p (key_in_words a d) off))
+      (subst (λ (y : ℕ). IsOutside Q y) (sym (key_stays a b f.fewer d)) (off_q (key_in_words a d) off));
+  words = λ key place there off. g.words key place (place_kept sites a b P f key place there (off_p key off)) (off_q key off)
+      ∙ f.words key place there (off_p key off);
+  shared = λ q r. elim (one q r) [ inl p ↦ shared_on sites b c q g.fewer (f.shared q p) | inr p ↦ g.shared q p ];
+}
 
 -- the keys of cells are not 0
 cell_positive : (sites : List Site) (words : List ℕ) → AreThinned sites words → (c : ℕ) → HasCell words c → 1 ≤ key_in_words words c
@@ -145,7 +165,7 @@ place_positive sites words key place h (ChildPlace c j p l k e) = omega (arith, 
 -- no cell lies in a cube whose word names no cell
 module _ (sites : List Site) (words : List ℕ) (key w : ℕ) (h : AreThinned sites words) (some : 1 ≤ key)
     (word : IsWordOf (at_of words) (at_of words 0) 1 (HasCell words) key w) (off : (c : ℕ) → w ≡ cell_word c → ⊥) where
-  none_in_cube : (q : ℕ) → IsInCubeOf key q → (d : ℕ) → IsWordOf (at_of words) (at_of words 0) 1 (HasCell words) q (cell_word d) → ⊥
+  pub none_in_cube : (q : ℕ) → IsInCubeOf key q → (d : ℕ) → IsWordOf (at_of words) (at_of words 0) 1 (HasCell words) q (cell_word d) → ⊥
   none_in_cube _ (ItsOwn q e) d x =
       off d (one_word (site_at sites) (at_of words) (at_of words 0) 1 (HasCell words) (HasBody words) _ h.stands key w (cell_word d) word
       (subst (λ (y : ℕ). IsWordOf (at_of words) (at_of words 0) 1 (HasCell words) y (cell_word d)) e x))
@@ -162,26 +182,32 @@ done_none sites words key place h there off = record {
   thinned = h;
   fewer = fewer_none words;
   stays = λ d c b. c;
-  shared = λ d c below.
+  words = λ q p t o. refl;
+  shared = λ q e d c below.
       absurd (none_in_cube sites words key (at_of words place) h (place_positive sites words key place h there)
-      (word_at_place (at_of words) 0 1 (HasCell words) key place there) off (key_in_words words d) below d (h.stands.cell_named d c));
+      (word_at_place (at_of words) 0 1 (HasCell words) key place there) off (key_in_words words d)
+      (subst (λ (y : ℕ). IsInCubeOf y (key_in_words words d)) e below) d (h.stands.cell_named d c));
 }
 
 -- one child more
-pub done_more : (sites : List Site) (before now next : List ℕ) (key k : ℕ) → k < 8 → AreDone sites before now key k → IsDoneAt sites now next (8 * key + k)
+pub done_more : (sites : List Site) (before now next : List ℕ) (key k : ℕ) → AreDone sites before now key k → IsDoneAt sites now next (8 * key + k)
     → AreDone sites before next key (k + 1)
-done_more sites before now next key k small all one = record {
-  thinned = one.thinned;
-  fewer = fewer_then before now next all.fewer one.fewer;
-  stays = λ d h off. one.stays d (all.stays d h off)
-      (λ b. off k small (subst (λ (y : ℕ). IsInCubeOf (8 * key + k) y) (key_stays before now all.fewer d) b));
-  shared = λ j l. elim (cases_lt j k) [
-    | inl less ↦ shared_on sites now next (8 * key + j) one.fewer (all.shared j less)
-    | inr last ↦ let same : k ≡ j = omega arith in subst (λ (y : ℕ). AreShared sites next (8 * key + y)) same one.shared
-  ];
-}
+done_more sites before now next key k all one =
+    done_then sites before now next (IsChildKey key k) (λ q. q ≡ 8 * key + k) (IsChildKey key (k + 1)) all one
+    (λ q p. elim (cases_lt p.octant k) [
+      | inl less ↦ inl (record { octant = p.octant; small = less; is = p.is })
+      | inr last ↦ let l = p.small in let same : p.octant ≡ k = omega arith in inr (p.is ∙ ap (λ y. 8 * key + y) same)
+    ])
+    (λ x off q p. off q (record { octant = p.octant; small = omega (arith, p.small); is = p.is }))
+    (λ x off q e. off q (record { octant = k; small = omega arith; is = e }))
 
 -- ---- a cell's own word
+
+-- the keys of cells are those of the levels of cells
+pub cell_small : (sites : List Site) (words : List ℕ) → AreThinned sites words → (c : ℕ) → HasCell words c → key_in_words words c < 2 * 8 ^ 20
+cell_small sites words h c has =
+    let t = sharer (h.stands.shared c has) in
+    omega (arith, t.one_under, key-high (site_at sites t.one) t.level, pow8-mono t.level 20 (omega (arith, t.shallow)))
 
 module _ (sites : List Site) (words : List ℕ) (key place c : ℕ) (h : AreThinned sites words)
     (there : IsPlaceOf (at_of words) 0 1 (HasCell words) key place) (here : at_of words place ≡ cell_word c) where
@@ -192,9 +218,11 @@ module _ (sites : List Site) (words : List ℕ) (key place c : ℕ) (h : AreThin
 
   -- its key is that of a level of cells
   pub key_small : key < 2 * 8 ^ 20
-  key_small =
-      let t = sharer (h.stands.shared c cell_is.0) in
-      omega (arith, cell_is.1, t.one_under, key-high (site_at sites t.one) t.level, pow8-mono t.level 20 (omega (arith, t.shallow)))
+  key_small = omega (arith, cell_is.1, cell_small sites words h c cell_is.0)
+
+  -- the place of a child's word, by its numbers
+  pub child_of : (k q p : ℕ) → k < 8 → q ≡ 8 * key + k → p ≡ child_place c k → IsPlaceOf (at_of words) 0 1 (HasCell words) q p
+  child_of k q p small e f = ChildPlace c k cell_is.0 small (e ∙ ap (λ y. 8 * y + k) (sym cell_is.1)) f
 
 -- a place of a word is in the list
 pub place_inside : (sites : List Site) (words : List ℕ) (key place : ℕ) → AreThinned sites words
@@ -229,7 +257,7 @@ module _ (sites : List Site) (before now : List ℕ) (key place c count : ℕ) (
 
   pub cell_stays : HasCell now c × (key_in_words now c ≡ key)
   cell_stays = (
-    done.stays c own.0 (λ j l b. omega (arith, below_grows (8 * key + j) (key_in_words before c) b, own.1, some)),
+    done.stays c own.0 (λ q p b. omega (arith, below_grows q (key_in_words before c) b, p.is, own.1, some)),
     key_stays before now done.fewer c ∙ own.1,
   )
 
@@ -237,32 +265,14 @@ module _ (sites : List Site) (before now : List ℕ) (key place c count : ℕ) (
   pub child_there : (k : ℕ) → k < 8 → IsPlaceOf (at_of now) 0 1 (HasCell now) (8 * key + k) (child_place c k)
   child_there k small = ChildPlace c k cell_stays.0 small (ap (λ y. 8 * y + k) (sym cell_stays.1)) refl
 
-  -- by its numbers
-  pub child_at : (k q p : ℕ) → k < 8 → q ≡ 8 * key + k → p ≡ child_place c k → IsPlaceOf (at_of now) 0 1 (HasCell now) q p
-  child_at k q p small e f = ChildPlace c k cell_stays.0 small (e ∙ ap (λ y. 8 * y + k) (sym cell_stays.1)) f
-
-  -- the cell's words are in the list, and those of its children fit
-  pub fits_now : word_count (c + 1) ≤ length now
-  fits_now = omega (arith, done.thinned.cells_held c cell_stays.0, done.thinned.few, done.thinned.long)
-
-  pub children_small : ArePoints sites → (k : ℕ) → k < 8 → at_of now (child_place c k) < 2 ^ 33
-  children_small points k small = place_small sites now (8 * key + k) (child_place c k) points done.thinned (child_there k small)
+  apart : IsOutside (IsChildKey key count) key
+  apart q p b = omega (arith, below_grows q key b, p.is, some)
 
   pub place_stays : IsPlaceOf (at_of now) 0 1 (HasCell now) key place
-  place_stays = still there
-    where
-      still : IsPlaceOf (at_of before) 0 1 (HasCell before) key place → IsPlaceOf (at_of now) 0 1 (HasCell now) key place
-      still (TopPlace k e) = TopPlace k e
-      still (ChildPlace d j p l k e) =
-          ChildPlace d j (done.stays d p (λ i m b. omega (arith, below_grows (8 * key + i) (key_in_words before d) b, k, cell_positive sites before h d p))) l
-          (k ∙ ap (λ y. 8 * y + j) (sym (key_stays before now done.fewer d))) e
+  place_stays = place_kept sites before now (IsChildKey key count) done key place there apart
 
   pub word_stays : at_of now place ≡ cell_word c
-  word_stays =
-      one_word (site_at sites) (at_of now) (at_of now 0) 1 (HasCell now) (HasBody now) _ done.thinned.stands key (at_of now place) (cell_word c)
-      (word_at_place (at_of now) 0 1 (HasCell now) key place place_stays)
-      (subst (λ (y : ℕ). IsWordOf (at_of now) (at_of now 0) 1 (HasCell now) y (cell_word c)) cell_stays.1
-      (done.thinned.stands.cell_named c cell_stays.0))
+  word_stays = done.words key place there apart ∙ here
 
 -- ---- the word that a cell leaves is put in its place
 
@@ -275,6 +285,17 @@ place_apart : (words : List ℕ) (key place i : ℕ) → IsPlaceOf (at_of words)
     → ((c k : ℕ) → k < 8 → i ≢ child_place c k) → i ≢ place
 place_apart words key place i (TopPlace k e) off none = λ f. off (f ∙ e)
 place_apart words key place i (ChildPlace c j p l k e) off none = λ f. none c j l (f ∙ e)
+
+-- a place is that of one key
+place_key : (words : List ℕ) (key other place : ℕ) → IsPlaceOf (at_of words) 0 1 (HasCell words) key place
+    → IsPlaceOf (at_of words) 0 1 (HasCell words) other place → key ≡ other
+place_key words key other place (TopPlace k e) (TopPlace l f) = k ∙ sym l
+place_key words key other place (TopPlace k e) (ChildPlace d j p l m f) = absurd (omega arith)
+place_key words key other place (ChildPlace c i o n k e) (TopPlace l f) = absurd (omega arith)
+place_key words key other place (ChildPlace c i o n k e) (ChildPlace d j p l m f) =
+    let cell : c ≡ d = omega arith in
+    let octant : i ≡ j = omega arith in
+    k ∙ ap (λ y. 8 * key_in_words words y + i) cell ∙ ap (λ y. 8 * key_in_words words d + y) octant ∙ sym m
 
 module _ (sites : List Site) (mid after : List ℕ) (key place c w : ℕ) (h : AreThinned sites mid)
     (there : IsPlaceOf (at_of mid) 0 1 (HasCell mid) key place) (here : at_of mid place ≡ cell_word c)
@@ -340,11 +361,13 @@ module _ (sites : List Site) (mid after : List ℕ) (key place c w : ℕ) (h : A
     cut_done = record {
       thinned = thinned_now;
       fewer = fewer_now;
-      stays = λ d has off. (cells_now d).0 (has, λ r. off (gone_in_cube d r));
-      shared = λ d has below.
+      stays = λ d has off. (cells_now d).0 (has, λ r. off key refl (gone_in_cube d r));
+      words = λ q p t off. changed.others p (λ e. off key refl
+          (ItsOwn q (place_key mid q key p t (subst (λ (y : ℕ). IsPlaceOf (at_of mid) 0 1 (HasCell mid) key y) (sym e) there))));
+      shared = λ q e d has below.
           let o = (cells_now d).1 has in
           let same : key_in_words after d ≡ key_in_words mid d = key_stays mid after fewer_now d in
-          elim (in_cube_case d o.0 (subst (λ (y : ℕ). IsInCubeOf key y) same below)) [
+          elim (in_cube_case d o.0 (subst (λ (y : ℕ). IsInCubeOf y (key_in_words mid d)) e (subst (λ (y : ℕ). IsInCubeOf q y) same below))) [
             | inl e ↦ absurd (o.1 (Here (cell_word d) (ap cell_word e ∙ sym here)))
             | inr f ↦ shared_on sites mid after (8 * key + f.octant) fewer_now (all f.octant f.small) d has
                 (subst (λ (y : ℕ). IsInCubeOf (8 * key + f.octant) y) (sym same) f.below)
@@ -357,7 +380,8 @@ module _ (sites : List Site) (mid after : List ℕ) (key place c w : ℕ) (h : A
     thinned = h;
     fewer = fewer_none mid;
     stays = λ d has off. has;
-    shared = λ d has below. elim (in_cube_case d has below) [
+    words = λ q p t off. refl;
+    shared = λ q e d has below. elim (in_cube_case d has (subst (λ (y : ℕ). IsInCubeOf y (key_in_words mid d)) e below)) [
       | inl e ↦ subst (λ (y : ℕ). IsShared site (HasBody mid) y) (sym its.1 ∙ ap (key_in_words mid) (sym e)) own
       | inr f ↦ all f.octant f.small d has f.below
     ];
@@ -393,7 +417,7 @@ module _ (sites : List Site) (mid after : List ℕ) (key place c w : ℕ) (h : A
         ]
       ]
 
-  pub left_done : (w ≡ cell_word c → after ≡ mid) → IsLeft (at_of mid) c w → IsDoneAt sites mid after key
+  pub left_done : (w ≡ cell_word c → after ≡ mid) → IsLeft (λ k. at_of mid (child_place c k)) c w → IsDoneAt sites mid after key
   left_done kept (NoneLeft e zeros) =
       cut_done (emptied site (at_of mid) (at_of after) 0 1 (HasCell mid) (HasBody mid) V key place h.stands there (none_below zeros)
       (subst (λ (y : ℕ). ChangedAt (at_of mid) (at_of after) place y) e changed))
@@ -421,7 +445,8 @@ module _ (sites : List Site) (mid after : List ℕ) (key place c w : ℕ) (h : A
 
 -- after the children, the cell itself
 pub done_cell : (sites : List Site) (before mid : List ℕ) (key place c w : ℕ) → AreThinned sites before
-    → IsPlaceOf (at_of before) 0 1 (HasCell before) key place → at_of before place ≡ cell_word c → AreDone sites before mid key 8 → IsLeft (at_of mid) c w
+    → IsPlaceOf (at_of before) 0 1 (HasCell before) key place → at_of before place ≡ cell_word c → AreDone sites before mid key 8
+    → IsLeft (λ k. at_of mid (child_place c k)) c w
     → IsDoneAt sites before (slice_set mid place w) key
 done_cell sites before mid key place c w h there here done left =
     let after : List ℕ = slice_set mid place w in
@@ -433,15 +458,11 @@ done_cell sites before mid key place c w h there here done left =
       others = λ i d. get_or-set_other mid place i w 0 d;
     } in
     let kept : w ≡ cell_word c → after ≡ mid = λ e. ap (slice_set mid place) (e ∙ sym here') ∙ set-get_or mid place 0 in
-    let one : IsDoneAt sites mid after key = left_done sites mid after key place c w done.thinned there' here' done.shared changed (length-set mid place w)
-    kept left in
-    record {
-      thinned = one.thinned;
-      fewer = fewer_then before mid after done.fewer one.fewer;
-      stays = λ d has off. one.stays d (done.stays d has (λ j l b. off (in_child_in key j (key_in_words before d) l b)))
-          (λ b. off (subst (λ (y : ℕ). IsInCubeOf key y) (key_stays before mid done.fewer d) b));
-      shared = one.shared;
-    }
+    let one : IsDoneAt sites mid after key = left_done sites mid after key place c w done.thinned there' here'
+    (λ j l. done.shared (8 * key + j) (record { octant = j; small = l; is = refl })) changed (length-set mid place w) kept left in
+    done_then sites before mid after (IsChildKey key 8) (λ q. q ≡ key) (λ q. q ≡ key) done one (λ q e. inr e)
+    (λ x off q p b. off key refl (in_child_in key p.octant x p.small (subst (λ (y : ℕ). IsInCubeOf y x) p.is b)))
+    (λ x off. off)
 
 -- ---- the whole
 
@@ -465,48 +486,47 @@ all_done sites before after done =
         names_cell = s.names_cell;
         body_named = s.body_named;
         names_body = s.names_body;
-        shared = λ c has. done.shared c has (in_whole sites after done.thinned c has);
+        shared = λ c has. done.shared 1 refl c has (in_whole sites after done.thinned c has);
       };
     }
 
 -- ---- the loop over the children of a cell
 
-pub data IsLeftSoFar (at : ℕ → ℕ) (c k left : ℕ) : Type 0 where
-  NoneYet : left ≡ 0 → ((j : ℕ) → j < k → at (child_place c j) ≡ 0) → IsLeftSoFar at c k left
-  OneYet : (i x : ℕ) → i < k → left ≡ body_word x → at (child_place c i) ≡ body_word x → ((j : ℕ) → j < k → j ≢ i → at (child_place c j) ≡ 0)
-      → IsLeftSoFar at c k left
+pub data IsLeftSoFar (child : ℕ → ℕ) (k left : ℕ) : Type 0 where
+  NoneYet : left ≡ 0 → ((j : ℕ) → j < k → child j ≡ 0) → IsLeftSoFar child k left
+  OneYet : (i x : ℕ) → i < k → left ≡ body_word x → child i ≡ body_word x → ((j : ℕ) → j < k → j ≢ i → child j ≡ 0)
+      → IsLeftSoFar child k left
 
-pub left_nothing : (at : ℕ → ℕ) (c k left : ℕ) → IsLeftSoFar at c k left → at (child_place c k) ≡ 0 → IsLeftSoFar at c (k + 1) left
-left_nothing at c k left (NoneYet e zeros) now = NoneYet e (λ j l. elim (cases_lt j k) [
+pub left_nothing : (child : ℕ → ℕ) (k left : ℕ) → IsLeftSoFar child k left → child k ≡ 0 → IsLeftSoFar child (k + 1) left
+left_nothing child k left (NoneYet e zeros) now = NoneYet e (λ j l. elim (cases_lt j k) [
   | inl less ↦ zeros j less
-  | inr last ↦ let same : j ≡ k = omega arith in ap (λ y. at (child_place c y)) same ∙ now
+  | inr last ↦ let same : j ≡ k = omega arith in ap child same ∙ now
 ])
-left_nothing at c k left (OneYet i x small e named zeros) now = OneYet i x (omega arith) e named (λ j l d. elim (cases_lt j k) [
+left_nothing child k left (OneYet i x small e named zeros) now = OneYet i x (omega arith) e named (λ j l d. elim (cases_lt j k) [
   | inl less ↦ zeros j less d
-  | inr last ↦ let same : j ≡ k = omega arith in ap (λ y. at (child_place c y)) same ∙ now
+  | inr last ↦ let same : j ≡ k = omega arith in ap child same ∙ now
 ])
 
-pub left_body : (at : ℕ → ℕ) (c k left w x : ℕ) → IsLeftSoFar at c k left → left ≡ 0 → w ≡ at (child_place c k) → w ≡ body_word x
-    → IsLeftSoFar at c (k + 1) w
-left_body at c k left w x (NoneYet e zeros) none now named =
+pub left_body : (child : ℕ → ℕ) (k left w x : ℕ) → IsLeftSoFar child k left → left ≡ 0 → w ≡ child k → w ≡ body_word x
+    → IsLeftSoFar child (k + 1) w
+left_body child k left w x (NoneYet e zeros) none now named =
     OneYet k x (omega arith) named (sym now ∙ named) (λ j l d. zeros j (omega (arith, d)))
-left_body at c k left w x (OneYet i y small e is zeros) none now named = absurd (omega arith)
+left_body child k left w x (OneYet i y small e is zeros) none now named = absurd (omega arith)
 
-pub left_two : (at : ℕ → ℕ) (c k left w n result : ℕ) → k < 8 → IsLeftSoFar at c k left → left ≢ 0 → w ≡ at (child_place c k) → w ≡ body_word n
-    → result ≡ cell_word c → IsLeft at c result
-left_two at c k left w n result small (NoneYet e zeros) more now named r = absurd (more e)
-left_two at c k left w n result small (OneYet i x l e is zeros) more now named r = TwoLeft i k x n l small r is (sym now ∙ named)
+pub left_two : (child : ℕ → ℕ) (c k left w n result : ℕ) → k < 8 → IsLeftSoFar child k left → left ≢ 0 → w ≡ child k → w ≡ body_word n
+    → result ≡ cell_word c → IsLeft child c result
+left_two child c k left w n result small (NoneYet e zeros) more now named r = absurd (more e)
+left_two child c k left w n result small (OneYet i x l e is zeros) more now named r = TwoLeft i k x n l small r is (sym now ∙ named)
 
-pub left_all : (at : ℕ → ℕ) (c k left : ℕ) → k ≡ 8 → IsLeftSoFar at c k left → IsLeft at c left
-left_all at c k left all (NoneYet e zeros) = NoneLeft e (λ j l. zeros j (omega arith))
-left_all at c k left all (OneYet i x small e named zeros) = OneLeft i x (omega arith) e named (λ j l d. zeros j (omega arith) d)
+pub left_all : (child : ℕ → ℕ) (c k left : ℕ) → k ≡ 8 → IsLeftSoFar child k left → IsLeft child c left
+left_all child c k left all (NoneYet e zeros) = NoneLeft e (λ j l. zeros j (omega arith))
+left_all child c k left all (OneYet i x small e named zeros) = OneLeft i x (omega arith) e named (λ j l d. zeros j (omega arith) d)
+
+pub left_small : (child : ℕ → ℕ) (k left : ℕ) → k ≤ 8 → ((j : ℕ) → j < 8 → child j < 2 ^ 33) → IsLeftSoFar child k left → left < 2 ^ 33
+left_small child k left l small (NoneYet e z) = omega arith
+left_small child k left l small (OneYet i x m e n z) = omega (arith, small i (omega arith), e, n)
 
 -- ---- words that are read
-
--- a word of a cell's child
-pub child_read : (words : List ℕ) (c k place x : ℕ) → word_count (c + 1) ≤ length words → k < 8 → place ≡ child_place c k → x ≡ slice_index_or words place x
-    → x ≡ at_of words (child_place c k)
-child_read words c k place x inside small e read = get_or_read words place x (omega (arith, inside, small, e)) read 0 ∙ ap (at_of words) e
 
 -- a word at a place
 pub place_read : (sites : List Site) (words : List ℕ) (key place x : ℕ) → AreThinned sites words → IsPlaceOf (at_of words) 0 1 (HasCell words) key place

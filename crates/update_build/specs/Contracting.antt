@@ -1,12 +1,13 @@
 -- Words from which bodies were taken, and what they are once cells with fewer bodies than two are gone.
-use Rattle.std.specs.Prelude.{ℕ, ◌+◌, ◌*◌, ◌<◌, ◌≤◌, ◌≡◌, ◌≢◌, ◌↔◌, List, length}
+use Rattle.std.specs.Prelude.{ℕ, ◌+◌, ◌*◌, ◌<◌, ◌≤◌, ◌≡◌, ◌≢◌, ◌↔◌, All, List, [], ◌∷◌, length, slice_set}
 use Rattle.octant_code.specs.Points.{site_at}
 use Rattle.octant_code.specs.Space.{Site}
 use Rattle.tree_rule.specs.declared.words.TheConstants.{MOST_CELLS}
-use Rattle.tree_rule.specs.Flat.{IsShared, StandsAmid}
+use Rattle.tree_rule.specs.Flat.{IsPlaceOf, IsShared, StandsAmid}
 use Rattle.tree_rule.specs.Locks.{AreUnlocked}
 use Rattle.tree_rule.specs.Words.{HasBody, HasCell, at_of, body_word, cell_word, child_place, key_place}
 use Rattle.octree.specs.Stored.{IsCanonical, StandsWell, Stored, word_count}
+use Rattle.update_build.specs.declared.edits.Edit.{Edit}
 
 -- The words are those of an octree of the whole cube, some of whose bodies were taken out: under the key of each cell lie two of the points, but
 -- perhaps no two of the bodies that are left.
@@ -43,11 +44,11 @@ pub record IsWhatStays (sites : List Site) (words : List ℕ) (tree : Stored) : 
   pub keys : (c : ℕ) → at_of tree.words (key_place c) ≡ at_of words (key_place c)
 
 -- The word that a cell leaves: none where its children name nothing, the only body that they name, and else its own.
-pub data IsLeft (at : ℕ → ℕ) (c w : ℕ) : Type 0 where
-  NoneLeft : w ≡ 0 → ((k : ℕ) → k < 8 → at (child_place c k) ≡ 0) → IsLeft at c w
-  OneLeft : (k x : ℕ) → k < 8 → w ≡ body_word x → at (child_place c k) ≡ body_word x → ((j : ℕ) → j < 8 → j ≢ k → at (child_place c j) ≡ 0) → IsLeft at c w
-  CellLeft : (k d : ℕ) → k < 8 → w ≡ cell_word c → at (child_place c k) ≡ cell_word d → IsLeft at c w
-  TwoLeft : (i k x n : ℕ) → i < k → k < 8 → w ≡ cell_word c → at (child_place c i) ≡ body_word x → at (child_place c k) ≡ body_word n → IsLeft at c w
+pub data IsLeft (child : ℕ → ℕ) (c w : ℕ) : Type 0 where
+  NoneLeft : w ≡ 0 → ((k : ℕ) → k < 8 → child k ≡ 0) → IsLeft child c w
+  OneLeft : (k x : ℕ) → k < 8 → w ≡ body_word x → child k ≡ body_word x → ((j : ℕ) → j < 8 → j ≢ k → child j ≡ 0) → IsLeft child c w
+  CellLeft : (k d : ℕ) → k < 8 → w ≡ cell_word c → child k ≡ cell_word d → IsLeft child c w
+  TwoLeft : (i k x n : ℕ) → i < k → k < 8 → w ≡ cell_word c → child i ≡ body_word x → child k ≡ body_word n → IsLeft child c w
 
 -- a key is that of a cube in the cube of another
 pub data IsInCubeOf (upper : ℕ) : ℕ → Type 0 where
@@ -63,16 +64,58 @@ abbrev pub AreShared : List Site → List ℕ → ℕ → Type 0
 AreShared sites words key = (d : ℕ) → HasCell words d → IsInCubeOf key (key_in_words words d)
     → IsShared (site_at sites) (HasBody words) (key_in_words words d)
 
--- The cells in the cube of a key were contracted, and no others are gone.
-pub record IsDoneAt (sites : List Site) (before after : List ℕ) (key : ℕ) : Type 0 where
-  pub thinned : AreThinned sites after
-  pub fewer : HaveFewerCells before after
-  pub stays : (d : ℕ) → HasCell before d → (IsInCubeOf key (key_in_words before d) → ⊥) → HasCell after d
-  pub shared : AreShared sites after key
+-- a key lies in none of the cubes of some keys
+abbrev pub IsOutside : (ℕ → Type 0) → ℕ → Type 0
+IsOutside Done key = (q : ℕ) → Done q → IsInCubeOf q key → ⊥
 
--- The cells in the cubes of the first children of a cell were contracted, and no others are gone.
-pub record AreDone (sites : List Site) (before after : List ℕ) (key count : ℕ) : Type 0 where
+-- The cells in the cubes of some keys were contracted: no others are gone, and no words outside were written.
+pub record IsDoneIn (sites : List Site) (before after : List ℕ) (Done : ℕ → Type 0) : Type 0 where
   pub thinned : AreThinned sites after
   pub fewer : HaveFewerCells before after
-  pub stays : (d : ℕ) → HasCell before d → ((j : ℕ) → j < 8 → IsInCubeOf (8 * key + j) (key_in_words before d) → ⊥) → HasCell after d
-  pub shared : (j : ℕ) → j < count → AreShared sites after (8 * key + j)
+  pub stays : (d : ℕ) → HasCell before d → IsOutside Done (key_in_words before d) → HasCell after d
+  pub words : (key place : ℕ) → IsPlaceOf (at_of before) 0 1 (HasCell before) key place → IsOutside Done key → at_of after place ≡ at_of before place
+  pub shared : (q : ℕ) → Done q → AreShared sites after q
+
+-- those in the cube of one key
+abbrev pub IsDoneAt : List Site → List ℕ → List ℕ → ℕ → Type 0
+IsDoneAt sites before after key = IsDoneIn sites before after (λ q. q ≡ key)
+
+-- the key of one of the first children of a cell
+pub record IsChildKey (key count q : ℕ) : Type 0 where
+  pub octant : ℕ
+  pub small : octant < count
+  pub is : q ≡ 8 * key + octant
+
+-- those in the cubes of the first children of a cell
+abbrev pub AreDone : List Site → List ℕ → List ℕ → ℕ → ℕ → Type 0
+AreDone sites before after key count = IsDoneIn sites before after (IsChildKey key count)
+
+-- Words that were read are still there in others, in the cube of a key.
+abbrev pub AreSeen : List ℕ → List ℕ → ℕ → Type 0
+AreSeen before now key = (q place : ℕ) → IsPlaceOf (at_of before) 0 1 (HasCell before) q place → IsInCubeOf key q
+    → IsPlaceOf (at_of now) 0 1 (HasCell now) q place × (at_of now place ≡ at_of before place)
+
+-- a key is that of a cube so many levels below another
+pub data IsBelowBy : ℕ → ℕ → ℕ → Type 0 where
+  NoFurther : (depth key q : ℕ) → depth ≡ 0 → q ≡ key → IsBelowBy depth key q
+  Further : (depth key q k d : ℕ) → k < 8 → depth ≡ d + 1 → IsBelowBy d (8 * key + k) q → IsBelowBy depth key q
+
+-- the cells so many levels below the cube of a key, and all below them, were contracted
+abbrev pub AreDoneBelow : List Site → List ℕ → ℕ → ℕ → Type 0
+AreDoneBelow sites words depth key = (q : ℕ) → IsBelowBy depth key q → AreShared sites words q
+
+-- the words with edits, each of which is made after those before it
+abbrev pub applied : List ℕ → List Edit → List ℕ
+applied words [] = words
+applied words (e ∷ es) = applied (slice_set words e.place e.word) es
+
+-- the places of edits are places of words
+abbrev pub AreInside : ℕ → List Edit → Type 0
+AreInside many edits = All (λ (e : Edit). e.place < many) edits
+
+-- The edits that were added to some contract what stands in the cube of a key, in any words in which what was read there still stands, and leave this
+-- word.
+abbrev pub LeaveAt : List Site → List ℕ → ℕ → ℕ → ℕ → List Edit → List Edit → ℕ → Type 0
+LeaveAt sites before depth key place old new left =
+    (now : List ℕ) → AreThinned sites (applied now old) → AreSeen before (applied now old) key → AreDoneBelow sites (applied now old) depth key
+    → IsDoneAt sites (applied now old) (applied now new) key × (at_of (applied now new) place ≡ left)

@@ -1,4 +1,5 @@
 pub mod Contracting
+pub mod Dealing
 pub mod Sweeping
 pub mod Moving
 pub mod Staying

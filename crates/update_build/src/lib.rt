@@ -4,9 +4,12 @@
 
 mod builder;
 mod contraction;
+mod edits;
 mod leaves;
 mod lists;
 mod movers;
+mod readers;
+mod reading;
 mod sweep;
 mod taking;
 #[cfg(test)]

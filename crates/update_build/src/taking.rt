@@ -14,8 +14,8 @@ use std::alloc::Global;
 use std::thread::Threads;
 
 /// The octree of the bodies that stay in their cells when all bodies move, at their new points, and the
-/// bodies of each share that leave. One worker a share looks for them and takes them out, all at the
-/// same time. The octree has no spare cells, and each of its cells has its number from before.
+/// bodies of each share that leave. One worker a share looks for them, takes them out and looks for the
+/// cells that go, all at the same time. The octree has no spare cells, and each of its cells has its number from before.
 ///
 /// # Errors
 ///
@@ -39,5 +39,11 @@ pub fn take_out<R: Threads + Sync>(
     let words = old.without_spare().into_words();
     let found = search_shares(rt, alloc, &words, old_points, new_points, shares)?;
     let words = sweep(rt, alloc, words, &found.places)?;
-    Ok((what_stays(old_points, new_points, words), found.movers))
+    let workers = if shares.is_empty() {
+        1
+    } else {
+        shares.len() as u64
+    };
+    let stays = what_stays(rt, alloc, old_points, new_points, words, workers)?;
+    Ok((stays, found.movers))
 }

@@ -36,14 +36,14 @@ thinned g c =
     c.in_ok-found.ensures.places c.in_ok-words.words.items (swept g c)
 
 pub what_stays-requires-clause-thinned : goal.what_stays-requires-clause-thinned
-what_stays-requires-clause-thinned g c = (thinned g (goal.at.what_stays-requires-clause-thinned g c).In_ok-words).thinned
+what_stays-requires-clause-thinned g c = λ κs within. (thinned g (goal.at.what_stays-requires-clause-thinned g c).In_ok-words).thinned
 
 pub what_stays-requires-clause-under : goal.what_stays-requires-clause-under
-what_stays-requires-clause-under g c = (thinned g (goal.at.what_stays-requires-clause-under g c).In_ok-words).under
+what_stays-requires-clause-under g c = λ κs within. (thinned g (goal.at.what_stays-requires-clause-under g c).In_ok-words).under
 
 pub returns-clause-stays : goal.returns-clause-stays
 returns-clause-stays g c =
     let at = (goal.at.returns-clause-stays g c).In_ok-words in
     stays_of c.args.old_points.now c.args.new_points.now c.into_words-words.result.items (are g at) c.requires.many (λ v. v.items)
     c.in_ok-found.found.movers.items c.in_ok-found.found.places.items (map (λ v. v.items) c.args.shares.now) c.in_ok-found.ensures.movers c.requires.all
-    c.in_ok-found.ensures.places c.args.old c.what_stays.result c.in_ok-words.words.items (same g at) (swept g at) c.what_stays.ensures
+    c.in_ok-found.ensures.places c.args.old c.in_ok-stays.stays c.in_ok-words.words.items (same g at) (swept g at) c.in_ok-stays.ensures
