@@ -3,25 +3,36 @@
 ghost use Rattle.std.specs.Prelude.{◌≡◌, ◌<◌, ℕ, IfOk, length};
 ghost use Rattle.octree.specs.Free.{AreMarked, AreUnmarked};
 ghost use Rattle.octree.specs.Spot.{IsReachable};
+ghost use Rattle.octree.specs.Subtree.{IsCellAt};
 
-use crate::subtree::{Subtree, Top};
+use crate::subtree::{CellAt, Subtree, Top};
 use octant_code::OutOfMemory;
 use std::alloc::Global;
 
-#[tactic(auto, using(crate::proofs::Laws::child_height))]
-/// Marks the cells of a subtree.
+#[cycle(marking)]
+#[inline(always)]
+/// Marks the cells of a subtree. It is compiled into the loop over the children of a cell, so that only
+/// cells are called for.
 pub fn mark_cells(at: Subtree, marks: &mut [bool])
     requires { (c : ℕ) → IsReachable at.octree c → c < length marks.old }
     ensures { AreMarked at.entry marks.old marks.new }
 {
     match at.top() {
         Top::Nothing | Top::Body(_) => {}
-        Top::Cell(cell) => {
-            marks[cell.number().0 as usize] = true;
-            for k in 0..8 {
-                mark_cells(cell.child(k), marks);
-            }
-        }
+        Top::Cell(cell) => mark_cell(cell, marks),
+    }
+}
+
+#[cycle(marking)]
+/// Marks a cell and those below it.
+fn mark_cell(cell: CellAt, marks: &mut [bool])
+    requires cell { IsCellAt cell cell }
+    requires inside { (c : ℕ) → IsReachable cell.octree c → c < length marks.old }
+    ensures { AreMarked cell.entry marks.old marks.new }
+{
+    marks[cell.number().0 as usize] = true;
+    for k in 0..8 {
+        mark_cells(cell.child(k), marks);
     }
 }
 

@@ -36,8 +36,9 @@ use tree_rule::CELLS_OF_ONE;
 
 /// How many cells for each body a part gets from the front of the region that is split; the others it
 /// gets from the end. Insertions use a region from its front, so the cells that all passes use first
-/// have the lowest numbers and stand together in the table, and most scenes need no more.
-const LOW_CELLS_OF_ONE: usize = 2;
+/// have the lowest numbers and stand together in the table. Most octrees have about one cell for two
+/// bodies.
+const LOW_CELLS_OF_ONE: usize = 1;
 
 /// What a shared tree is made of: its table, its points, and an empty list with room for the words that
 /// closing copies out of the table. Contracts see it as a `SharedTree`.
@@ -142,7 +143,7 @@ impl TreeParts {
 
     /// Splits bodies of the todo list off for a new pass, which gets room for 21 cells for each of them,
     /// and the right to draw them. As many as the old one has no room to draw it gets from the region: the
-    /// first, up to 2 for each body, from its front, and the others from its end.
+    /// first, up to one for each body, from its front, and the others from its end.
     ///
     /// # Errors
     ///

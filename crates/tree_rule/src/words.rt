@@ -38,18 +38,18 @@ pub enum Named {
     Cell(u32),
 }
 
-/// What a word names.
+/// What a word names. Cells come first, by one test, since walks ask for nothing else of most words.
 #[inline]
 pub fn named_by(word: u64) -> Named
     requires { word < 2 ^ 33 }
     ensures { NamesAs word result }
 {
-    if word == 0 {
-        Named::Nothing
-    } else if word % 2 == 1 {
-        Named::Body((word / 2) as u32)
-    } else {
+    if word % 2 == 0 && word != 0 {
         Named::Cell((word / 2 - 1) as u32)
+    } else if word == 0 {
+        Named::Nothing
+    } else {
+        Named::Body((word / 2) as u32)
     }
 }
 
