@@ -1,10 +1,9 @@
 -- The code of a point tells its octants, and the cubes of codes are those of the bodies.
 use Rattle.std.proofs.Common.{ℕ, ◌+◌, ◌-◌, ◌*◌, ◌/◌, ◌^◌, ◌<◌, ◌≤◌, ◌≡◌, suc, refl, sym, ◌∙◌}
-use Rattle.std.proofs.Common.{ap, arith, List, [], ◌∷◌, ◌++◌, map, length, All, append-nil, drop, sum_by, take}
+use Rattle.std.proofs.Common.{ap, arith, List, [], ◌∷◌, map, length, All, sum_by}
 use Rattle.std.specs.List.Sorted.{IsPermutation}
 use Rattle.std.proofs.lemmas.List.{length-map}
 use Rattle.std.proofs.lemmas.List.Elements.{All-cons, All-nil}
-use Rattle.std.proofs.Math.Seq.{drop-length, take-length}
 use Rattle.std.proofs.lemmas.List.Sums.{sum_by-cons}
 use Rattle.std.proofs.lemmas.List.Sorted.{All-permutation, length_permutation}
 use Rattle.octant_code.specs.Space.{Site, key_of, octant_of}
@@ -48,13 +47,6 @@ pub cubes_of_codes : (site : ℕ → Site) (most : ℕ) (bodies codes : List ℕ
 cubes_of_codes site most bodies codes p =
     cubes_through (octants_of site) octant_of_code (λ n. code_of (site n)) most 21 0 1 bodies (omega arith) (λ n l deep. octant_told (site n) l deep)
     ∙ cubes_alike octant_of_code most 21 0 1 (map (λ n. code_of (site n)) bodies) codes (alike_by_order (map (λ n. code_of (site n)) bodies) codes p)
-
--- a slice that was written back into a whole list
-pub written_back : {T : Type 0} (s items : List T) (len : ℕ) → length s ≡ length items → len ≡ length items → take len (s ++ drop (length s) items) ≡ s
-written_back {T = T} s items len same all =
-    let none : drop (length s) items ≡ [] = ap (λ y. drop y items) same ∙ drop-length items in
-    let whole : len ≡ length s = omega (arith, same, all) in
-    ap (λ (y : List T). take len (s ++ y)) none ∙ ap (λ (y : List T). take len y) (append-nil s) ∙ ap (λ y. take y s) whole ∙ take-length s
 
 -- codes in order are as many as the points
 pub as_many : (site : ℕ → Site) (n : ℕ) (codes : List ℕ) → IsPermutation (map (λ m. code_of (site m)) (numbers n)) codes → length codes ≡ n

@@ -1,7 +1,6 @@
 //! The bodies in the order of their points' codes.
 
 ghost use Rattle.std.specs.Prelude.{◌≡◌, ◌<◌, ◌≤◌, ◌/◌, All, IfOk, length, map, max};
-ghost use Rattle.std.specs.List.Sorted.{IsPermutation};
 ghost use Rattle.octant_code.specs.Points.{site_at};
 ghost use Rattle.octant_code.specs.Space.{key_of};
 ghost use Rattle.octant_code.specs.declared.limits.TheConstants.{MOST_BODIES};
@@ -13,9 +12,7 @@ ghost use Rattle.space_split.specs.Sorted.{AreSorted, coded_in};
 use crate::interleave::{code_of, spreads};
 use octant_code::{MOST_BODIES, OutOfMemory, Points};
 use octree::body_of;
-use rayon::prelude::*;
 use std::alloc::Global;
-use std::thread::Threads;
 
 /// How many numbers of bodies there are.
 const BODIES: u64 = MOST_BODIES as u64;
@@ -29,20 +26,15 @@ pub struct Coded {
 
 /// All bodies with their codes, the least code first, so that the bodies of each cube stand side by
 /// side. Ranks, of one word each, bring them into that order but for those whose codes differ in their
-/// last bits alone; only where such bodies stand the other way round does the last sort move any.
-pub fn sorted_bodies<R: Threads + Sync>(
-    rt: &R,
-    alloc: Global,
-    points: &Points,
-    workers: u32,
-) -> Result<Vec<Coded>, OutOfMemory>
-    requires { HasWorkers workers }
+/// last bits alone; only where such bodies stand the other way round does the last sort move any. One
+/// thread sorts 65,536 ranks in less time than several do.
+pub fn sorted_bodies(alloc: Global, points: &Points) -> Result<Vec<Coded>, OutOfMemory>
     ensures { IfOk result (λ v. AreSorted points.now v.items) }
 {
     let _few = points.len();
     let codes = codes_of(alloc, points)?;
     let mut ranks = ranks_of(alloc, &codes)?;
-    sort_ranks(rt, ranks.as_mut_slice(), workers);
+    ranks.sort_unstable();
     let mut bodies = coded_bodies(alloc, &codes, &ranks)?;
     bodies.sort_unstable_by_key(|b: &Coded| b.code);
     Ok(bodies)
@@ -92,18 +84,6 @@ fn ranks_of(alloc: Global, codes: &[u64]) -> Result<Vec<u64>, OutOfMemory>
         ranks.push((codes[n] << common) / BODIES * BODIES + n as u64)?;
     }
     Ok(ranks)
-}
-
-/// Sorts ranks, by one worker in the calling thread.
-fn sort_ranks<R: Threads + Sync>(rt: &R, ranks: &mut [u64], workers: u32)
-    ensures permutation { IsPermutation ranks.old ranks.new }
-    ensures len { length ranks.new ≡ length ranks.old }
-{
-    if workers == 1 {
-        ranks.sort_unstable();
-    } else {
-        par_sort_unstable(rt, ranks);
-    }
 }
 
 /// The bodies of ranks with their codes, in the order of the ranks.

@@ -83,7 +83,8 @@ fn counts_of(codes: &[u64], cube: Cube, most: u32, level: u32) -> [u32; 8]
     octant_counts(&codes[start..end], level)
 }
 
-/// How many bodies of some have each octant at a level.
+/// How many bodies of some have each octant at a level. The octant that was counted last has its count
+/// outside the list, since the codes of an octant mostly come one after another.
 fn octant_counts(codes: &[u64], level: u32) -> [u32; 8]
     requires deep { level < LEVELS }
     requires few { length codes.now ≤ MOST_BODIES }
@@ -91,10 +92,18 @@ fn octant_counts(codes: &[u64], level: u32) -> [u32; 8]
 {
     let shift = 3 * (LEVELS - 1 - level);
     let mut counts = [0u32; 8];
+    let mut last = 0usize;
+    let mut run = 0u32;
     for code in codes {
         let k = ((*code >> shift) % 8) as usize;
-        counts[k] += 1;
+        if k != last {
+            counts[last] = run;
+            last = k;
+            run = counts[k];
+        }
+        run += 1;
     }
+    counts[last] = run;
     counts
 }
 
