@@ -49,6 +49,16 @@ pub sum_of_same : (q : ℕ → ℕ) (xs ys : List ℕ) → NoneTwice xs → None
     → sum_by q xs ≡ sum_by q ys
 sum_of_same q xs ys once other there back = omega (arith, sum_of_some q xs ys once other there, sum_of_some q ys xs other once back)
 
+-- a list is as long as its sum of ones
+ones : (xs : List ℕ) → sum_by (λ _. 1) xs ≡ length xs
+ones [] = refl
+ones (x ∷ xs) = omega (arith, sum_by-cons (λ _. 1) x xs, ones xs)
+
+-- two lists of the same members without repeats are equally long
+pub same_length : (xs ys : List ℕ) → NoneTwice xs → NoneTwice ys → ((n : ℕ) → IsIn xs n → IsIn ys n) → ((n : ℕ) → IsIn ys n → IsIn xs n)
+    → length xs ≡ length ys
+same_length xs ys once other there back = omega (arith, ones xs, sum_of_same (λ _. 1) xs ys once other there back, ones ys)
+
 -- the total over the canonical octree is at most the sum over the bodies of the list
 pub octree_total_le : (q : ℕ → ℕ) (site : ℕ → Site) (bodies : List ℕ) → NoneTwice bodies → total q (octree site bodies) ≤ sum_by q bodies
 octree_total_le q site bodies once =

@@ -8,6 +8,12 @@ use Rattle.bh_model.proofs.Trees.{greatest-append, keys-body, keys-cell, keys-em
 use Rattle.bh_model.proofs.Trees.{order-empty}
 use Rattle.bh_model.specs.Trees.{Tree, Empty, Body, Cell, body_levels_from, cell_count, cell_keys_from, cell_of, greatest, height, order}
 
+-- joined lists are as long as the sum of their lengths
+pub length_joined : (g : ℕ → List ℕ) (k : ℕ) → length (joined g k) ≡ sum_upto (λ j. length (g j)) k
+unfolding sum_upto
+length_joined g zero = refl
+length_joined g (suc k) = omega (arith, length-append (joined g k) (g k), length_joined g k)
+
 -- ---- height
 
 -- the children of a cell are less high

@@ -1,8 +1,14 @@
 -- What a filter, a join and a row of numbers have as members, and that none of them has a member twice.
-use Rattle.std.proofs.Common.{ℕ, ◌+◌, ◌<◌, add-one, ◌≡◌, ◌≢◌, ◌⊎◌, ◌↔◌, zero, suc, refl, sym, ◌∙◌, ap, subst, inl, inr, arith, List, [], ◌∷◌, ◌++◌, Bool, true, false}
+use Rattle.std.proofs.Common.{ℕ, ◌+◌, ◌<◌, add-one, ◌≡◌, ◌≢◌, ◌⊎◌, ◌↔◌, zero, suc, refl, sym, ◌∙◌, ap, subst, inl, inr, arith, List, [], ◌∷◌, ◌++◌, Bool, true, false, get_or, length}
 use Rattle.std.specs.List.{filter}
 use Rattle.std.proofs.lemmas.Bool.{cases_Bool, cases_lt}
 use Rattle.bh_model.specs.Bodies.{IsIn, NoneTwice, numbers}
+
+-- the number at a place of a list is a member
+pub member_at : (xs : List ℕ) (k : ℕ) → k < length xs → IsIn xs (get_or xs k 0)
+member_at [] k l = absurd (omega arith)
+member_at (x ∷ xs) zero l = inl refl
+member_at (x ∷ xs) (suc k) l = inr (member_at xs k (omega arith))
 
 -- a filter that no member passes keeps none
 pub filter-none : (p : ℕ → Bool) (xs : List ℕ) → ((n : ℕ) → IsIn xs n → p n ≡ true → ⊥) → filter p xs ≡ []

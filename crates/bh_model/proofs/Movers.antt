@@ -4,14 +4,13 @@ use Rattle.std.proofs.Common.{ℕ, ◌+◌, ◌*◌, ◌<◌, ◌≤◌, ◌≡�
 use Rattle.std.proofs.Common.{eqb, filter, length}
 use Rattle.std.proofs.lemmas.Bool.{cases_Bool, cases_lt, eq-eqb, eqb-true}
 use Rattle.std.proofs.lemmas.List.Filters.{length-filter_both}
-use Rattle.std.proofs.lemmas.List.Sums.{sum_by-cons}
-use Rattle.std.specs.List.{list_any, sum_by}
+use Rattle.std.specs.List.{list_any}
 use Rattle.octant_code.specs.Space.{IsUnder, Site, key_of, octant_of}
 use Rattle.octant_code.proofs.Keys.{key-suc, octant-small, same_child, same_level}
 use Rattle.bh_model.specs.Bodies.{IsIn, NoneTwice, numbers, without}
 use Rattle.bh_model.specs.Movers.{is_under, keeps_leaf, leaf_keys_from, remaining, stay, update_counts}
 use Rattle.bh_model.specs.Trees.{Body, Empty, HasCellAt, Tree, cell_count, cell_keys_from, cell_of, in_octant, octree, octree_from}
-use Rattle.bh_model.proofs.AllBodies.{sum_of_same}
+use Rattle.bh_model.proofs.AllBodies.{same_length}
 use Rattle.bh_model.proofs.Cells.{ArePlaced, LieUnder, cell_at, in_octant-keeps, in_octant-member, in_octant-once, in_octant-under, keys-many}
 use Rattle.bh_model.proofs.Cells.{HasTwoFrom, same_above, two_where_cell, under_root}
 use Rattle.bh_model.proofs.Lists.{filter-keeps, filter-member, in_joined, in_numbers, joined, none_twice-filter, none_twice_joined}
@@ -247,16 +246,6 @@ keys_once site (suc below) level key (n ∷ m ∷ rest) sum once under =
           omega (arith, s.low, same_level (site s.one) (site s.one) s.depth level own)),
       none_twice_joined kids 8 (λ k l. keys_once site below (suc level) (8 * key + k) (part k) (omega arith) (kid_once k) (kid_under k)) apart,
     )
-
--- a list is as long as its sum of ones
-ones : (xs : List ℕ) → sum_by (λ _. 1) xs ≡ length xs
-ones [] = refl
-ones (x ∷ xs) = omega (arith, sum_by-cons (λ _. 1) x xs, ones xs)
-
--- two lists of the same members without repeats are equally long
-pub same_length : (xs ys : List ℕ) → NoneTwice xs → NoneTwice ys → ((n : ℕ) → IsIn xs n → IsIn ys n) → ((n : ℕ) → IsIn ys n → IsIn xs n)
-    → length xs ≡ length ys
-same_length xs ys once other there back = sym (ones xs) ∙ sum_of_same (λ _. 1) xs ys once other there back ∙ ones ys
 
 -- a list of which another has some members is as long as those and the others
 pub with_without : (xs ys : List ℕ) → NoneTwice xs → NoneTwice ys → ((n : ℕ) → IsIn ys n → IsIn xs n) → length xs ≡ length ys + length (without xs ys)

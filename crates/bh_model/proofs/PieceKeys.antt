@@ -25,7 +25,7 @@ key_rows : (f : ℕ → List (ℕ × ℕ)) (m : ℕ) → keys_of (rows f (suc m)
 key_rows f m = map-append (λ (c : ℕ × ℕ). c.0) (rows f m) (f m)
 
 -- a member of what the first octants give is one of an octant's
-from_row : (f : ℕ → List (ℕ × ℕ)) (m key : ℕ) → IsIn (keys_of (rows f m)) key → (k : ℕ) × (k < m) × IsIn (keys_of (f k)) key
+pub from_row : (f : ℕ → List (ℕ × ℕ)) (m key : ℕ) → IsIn (keys_of (rows f m)) key → (k : ℕ) × (k < m) × IsIn (keys_of (f k)) key
 from_row f zero key i = absurd i
 from_row f (suc m) key i = elim (in_append (keys_of (rows f m)) (keys_of (f m)) key (subst (λ (y : List ℕ). IsIn y key) (key_rows f m) i)) [
   | inl j ↦ let r = from_row f m key j in (r.0, omega (arith, r.1), r.2)

@@ -1,7 +1,6 @@
 -- An octree into which bodies are inserted in the order of their numbers.
-use Rattle.std.proofs.Common.{ℕ, ◌+◌, ◌*◌, ◌<◌, ◌≤◌, ◌≡◌, ◌∙◌, inl, inr, arith, List, length, sym}
-use Rattle.octant_code.specs.Space.{IsUnder, Site}
-use Rattle.octant_code.proofs.Keys.{key-zero}
+use Rattle.std.proofs.Common.{ℕ, ◌+◌, ◌*◌, ◌<◌, ◌≤◌, ◌≡◌, ◌∙◌, inl, inr, arith, List, length}
+use Rattle.octant_code.specs.Space.{Site}
 use Rattle.octree.specs.Stored.{IsCanonical, IsInserted, Stored}
 use Rattle.octree.proofs.Laws.{empty_canonical, reached_blank}
 use Rattle.tree_rule.specs.Words.{HasBody, at_of, body_word}
@@ -13,10 +12,6 @@ pub record IsFilled (sites : List Site) (o : Stored) (i : ℕ) : Type 0 where
   pub base : o.base ≡ 1
   pub used : o.used ≤ 21 * i
   pub held : o.held ≡ 21 * length sites
-
--- every point lies in the whole cube
-pub under_whole : (s : Site) (base : ℕ) → base ≡ 1 → IsUnder base s
-under_whole s base e = (0, omega arith, e ∙ sym (key-zero s))
 
 -- the empty octree
 pub filled_none : (sites : List Site) (o : Stored) → at_of o.words 0 ≡ 0 → o.base ≡ 1 → o.used ≡ 0 → o.held ≡ 21 * length sites → IsFilled sites o 0

@@ -1,6 +1,6 @@
 -- Where a body's own node stands in the flat table: in the part of a cell exactly where the body's point is in the cell's cube.
 use Rattle.std.proofs.Common.{ℕ, ◌+◌, ◌-◌, ◌*◌, ◌<◌, ◌≤◌, ◌≡◌, ◌≢◌, ◌⊎◌, zero, suc, true, false, eqb, List, [], ◌∷◌, length, get_or}
-use Rattle.std.proofs.Common.{refl, sym, ap, ◌∙◌, subst, arith, inl, inr, length-append, add-one}
+use Rattle.std.proofs.Common.{refl, sym, ap, ◌∙◌, subst, arith, inl, inr, add-one}
 use Rattle.std.proofs.lemmas.Bool.{cases_eq, cases_lt}
 use Rattle.std.proofs.lemmas.Bool.Decides.{nat_tests}
 use Rattle.std.proofs.lemmas.List.{get_or-append_right, get_or_append_left, get_or_past}
@@ -9,7 +9,7 @@ use Rattle.octant_code.proofs.Keys.{key-suc, octant-small, same_child, same_pare
 use Rattle.bh_model.specs.Bodies.{IsIn}
 use Rattle.bh_model.specs.Trees.{Body, Cell, Empty, Tree, cell_of, octree_from, order}
 use Rattle.bh_model.proofs.Cells.{LieUnder, in_octant-under}
-use Rattle.bh_model.proofs.Folds.{nth}
+use Rattle.bh_model.proofs.Folds.{length_joined, nth}
 use Rattle.bh_model.proofs.Lists.{in_joined, joined, joined_in}
 use Rattle.bh_model.proofs.Totals.{each_of_eight, sum_upto, sum_upto-le, sum_upto-more}
 use Rattle.bh_model.proofs.Trees.{octree-deep, octree-many, octree-none, octree-one}
@@ -36,11 +36,6 @@ owners_one n = refl
 pub owners_cell : (child : ℕ → Tree) → owners (cell_of child) ≡ 0 ∷ joined (child_owners child) 8
 unfolding owners
 owners_cell child = refl
-
-pub length_joined : (g : ℕ → List ℕ) (k : ℕ) → length (joined g k) ≡ sum_upto (λ j. length (g j)) k
-unfolding sum_upto
-length_joined g zero = refl
-length_joined g (suc k) = omega (arith, length-append (joined g k) (g k), length_joined g k)
 
 pub owners_count : (child : ℕ → Tree) → length (owners (cell_of child)) ≡ 1 + sum_upto (child_nodes child) 8
 owners_count child = omega (arith, ap length (owners_cell child), length_joined (child_owners child) 8)

@@ -1,7 +1,7 @@
 -- The frames that are left of a run, and the next of them.
 use Rattle.std.proofs.Common.{◌≡◌, ◌∙◌, ◌<◌, ◌≤◌, ◌+◌, ◌-◌, ℕ, zero, suc, Bool, true, false, cond, Option, List, [], ◌∷◌, ◌++◌, length, take, drop, refl, sym, ap, subst, arith}
 use Rattle.std.proofs.lemmas.Bool.Decides.{nat_tests}
-use Rattle.std.proofs.lemmas.List.{append-nil, at_drop_all, at_drop_more, take_more}
+use Rattle.std.proofs.lemmas.List.{append-nil, at_drop_all, at_drop_more}
 use Rattle.std.specs.Prelude.{nat_lt}
 use Rattle.bh_model.specs.declared.plan.Builder.{Builder}
 use Rattle.frame_core.specs.Building.{Rises}
@@ -22,6 +22,7 @@ use Rattle.nbody_cli.specs.Text.{Part, command_parts, frame_parts, frames_of_com
 use Rattle.nbody_cli.specs.declared.status.Status.{Status}
 use Rattle.nbody_cli.specs.declared.status.Status.TheVariants as status
 use Rattle.shared_tree.specs.Seen.{YardCounts}
+use Rattle.scene_file.proofs.PassingRule.{after_more}
 use Rattle.scene_file.specs.Moves.{IsPass, IsScene, SceneParts, after_passes, pass_at, shifted}
 use Rattle.scene_file.specs.declared.bodies.Body.{Body}
 use Rattle.scene_file.specs.declared.moves.Move.{Move}
@@ -152,18 +153,6 @@ next_bare command.Trial steps passes i e less = ap (λ (x : EngineState). x.stag
 after_none : (bodies : List Body) → after_passes [] bodies ≡ bodies
 unfolding after_passes
 after_none bodies = refl
-
--- the bodies after one pass more
-after_push : (passes : List (List Move)) (moves : List Move) (bodies : List Body)
-    → after_passes (passes ++ moves ∷ []) bodies ≡ shifted moves (after_passes passes bodies)
-unfolding after_passes
-after_push [] moves bodies = refl
-after_push (first ∷ passes) moves bodies = after_push passes moves (shifted first bodies)
-
-after_more : (passes : List (List Move)) (i : ℕ) (bodies : List Body) → i < length passes
-    → after_passes (take (i + 1) passes) bodies ≡ shifted (pass_at passes i) (after_passes (take i passes) bodies)
-after_more passes i bodies within =
-    ap (λ list. after_passes list bodies) (take_more passes i [] within) ∙ after_push (take i passes) (pass_at passes i) bodies
 
 -- ---- a run on its way
 

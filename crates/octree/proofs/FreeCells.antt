@@ -1,12 +1,12 @@
 -- How the cells that can't be reached are found: those that can are marked, and the others listed.
-use Rattle.std.proofs.Common.{ℕ, zero, suc, ◌+◌, ◌<◌, ◌≡◌, ◌⊎◌, ◌↔◌, refl, sym, ◌∙◌, ap, subst, inl, inr, arith, Bool, true, false, List, [], ◌∷◌, ◌++◌, length, get_or, set}
-use Rattle.std.proofs.Common.{get_or-set_same, get_or-set_other, length-append, replicate, sum_by}
+use Rattle.std.proofs.Common.{ℕ, ◌+◌, ◌<◌, ◌≡◌, ◌⊎◌, ◌↔◌, refl, sym, ◌∙◌, ap, subst, inl, inr, arith, Bool, true, false, List, [], ◌∷◌, ◌++◌, length, get_or, set}
+use Rattle.std.proofs.Common.{get_or-set_same, get_or-set_other, length-append, replicate}
 use Rattle.std.proofs.lemmas.Bool.{cases_Bool, cases_lt}
 use Rattle.std.proofs.lemmas.List.{get_or-replicate, get_or_past, length-replicate}
-use Rattle.std.proofs.lemmas.List.Sums.{sum_by-cons}
-use Rattle.bh_model.proofs.AllBodies.{sum_of_same}
+use Rattle.bh_model.proofs.AllBodies.{same_length}
 use Rattle.bh_model.proofs.Equal.{same_or_not}
 use Rattle.bh_model.proofs.Lists.{in_append, in_left, in_right, in_numbers, none_twice-append, numbers_once}
+use Rattle.bh_model.proofs.Standing.{length_numbers}
 use Rattle.bh_model.specs.Bodies.{IsIn, NoneTwice, numbers}
 use Rattle.octree.proofs.Counts.{cells_are_once, cells_of_tree}
 use Rattle.octree.proofs.Subtrees.{cells_of_octree}
@@ -157,20 +157,6 @@ unmarked_more marks n list next h m e = subst (AreUnmarked marks (n + 1)) (sym e
 
 -- ---- the cells that can't be reached
 
--- a list is as long as its sum of ones
-ones : (xs : List ℕ) → sum_by (λ _. 1) xs ≡ length xs
-ones [] = refl
-ones (x ∷ xs) = omega (arith, sum_by-cons (λ _. 1) x xs, ones xs)
-
--- two lists of the same members without repeats are equally long
-same_length : (xs ys : List ℕ) → NoneTwice xs → NoneTwice ys → ((n : ℕ) → IsIn xs n → IsIn ys n) → ((n : ℕ) → IsIn ys n → IsIn xs n) → length xs ≡ length ys
-same_length xs ys once other there back = sym (ones xs) ∙ sum_of_same (λ _. 1) xs ys once other there back ∙ ones ys
-
-length-numbers : (n : ℕ) → length (numbers n) ≡ n
-unfolding numbers
-length-numbers zero = refl
-length-numbers (suc n) = omega (arith, length-append (numbers n) (n ∷ []), length-numbers n)
-
 -- those that are not marked, where those are marked that can be reached
 pub free_are : (o : Stored) (marks : List Bool) (list : List ℕ) → IsStored o → ((c : ℕ) → IsMarked marks c ↔ IsReachable o c) → AreUnmarked marks o.held list
     → AreFreeCells o list
@@ -194,5 +180,5 @@ free_are o marks list stored marked h =
         λ i. let f = (h.each c).0 i in (f.0, λ r. f.1 ((marked c).1 r)),
         λ g. (h.each c).1 (g.0, λ m. g.1 ((marked c).0 m)),
       );
-      count = omega (arith, all, length-numbers o.held, length-append list (cells_of o), cells_of_tree o);
+      count = omega (arith, all, length_numbers o.held, length-append list (cells_of o), cells_of_tree o);
     }

@@ -14,8 +14,8 @@ pub use Rattle.octree.proofs.ReadWords.{reached_blank}
 pub use Rattle.octree.proofs.WholeWords.{whole_level}
 -- lists that rise
 pub use Rattle.octree.proofs.FreeCells.{rising_once}
--- an octree with no body
-pub use Rattle.octree.proofs.Builds.{empty_canonical}
+-- an octree with no body, and that every point lies in the whole cube
+pub use Rattle.octree.proofs.Builds.{empty_canonical, under_whole}
 -- two bodies in one cube
 pub use Rattle.octree.proofs.Chains.{octant_under, pair_cube, pair_deeper}
 

@@ -7,7 +7,7 @@ use Rattle.bh_model.proofs.MoreThan.{one_of_more}
 use Rattle.octant_code.proofs.Keys.{pow8-mono}
 use Rattle.octree.proofs.Locks.{unlocked_more}
 use Rattle.octree.proofs.Words.{at_longer}
-use Rattle.octree.specs.Stored.{AreOctreeWords, IsBlankFrom, IsStored, Stored, all_used, all_words, cell_count_of, full_tree, spare_of, tree_with_used}
+use Rattle.octree.specs.Stored.{AreOctreeWords, IsStored, Stored, all_used, all_words, cell_count_of, full_tree, spare_of}
 use Rattle.tree_rule.proofs.Laws.{recall}
 use Rattle.tree_rule.specs.Words.{lock_place}
 use Rattle.tree_rule.specs.Sound.{IsSound}
@@ -66,54 +66,3 @@ pub full_again : (o : Stored) → IsStored o → o.base ≡ 1 → full_tree (all
 full_again o h one =
     let P : List ℕ → ℕ → ℕ → ℕ → Stored = λ w b l n. record { words = w; base = b; level = l; used = n; held = n } in
     ap (P (all_words o) 1 0) (all_cells o h) ∙ whole_cube (λ b l. P (all_words o) b l o.held) o h one
-
--- and with the number of used cells it is the octree
-pub used_again : (o : Stored) → IsStored o → o.base ≡ 1 → tree_with_used (all_words o) o.used ≡ o
-used_again o h one =
-    let P : List ℕ → ℕ → ℕ → ℕ → Stored = λ w b l n. record { words = w; base = b; level = l; used = o.used; held = n } in
-    ap (λ w. P w 1 0 (cell_count_of (length (all_words o)))) (take_at o.words (replicate (10 * spare_of o) 0) (3 + 10 * o.used) h.long)
-    ∙ ap (P o.words 1 0) (all_cells o h) ∙ whole_cube (λ b l. P o.words b l o.held) o h one
-
--- below cells that are not used nothing is read
-unused_bare : (words : List ℕ) (used c : ℕ) → IsBlankFrom words used → used ≤ c → (w : ℕ) → IsReached (at_of words) (cell_word c) w
-    → (w ≡ cell_word c) ⊎ (w ≡ 0)
-unused_bare words used c blank past _ (Here w e) = inl e
-unused_bare words used c blank past _ (Below d k w r l e) = elim (unused_bare words used c blank past (cell_word d) r) [
-  | inl f ↦ inr (e ∙ blank (child_place d k) (omega arith))
-  | inr f ↦ absurd (omega arith)
-]
-
--- so no such cell is reached
-cells_below : (words : List ℕ) (used : ℕ) → AreOctreeWords words → IsBlankFrom words used → (c : ℕ) → HasCell words c → c < used
-cells_below words used h blank c r = elim (cases_lt c used) [
-  | inl l ↦ l
-  | inr past ↦
-      let f = recall (at_of words) (at_of words 0) 1 (cell_word c) r in
-      let one = one_of_more (h.sound.more_bodies f.key c f.read) in
-      absurd (elim (unused_bare words used c blank past (body_word one.one) one.one_is) [ inl e ↦ omega arith | inr e ↦ omega arith ])
-]
-
--- the words of the used cells alone are an octree's
-pub used_stored : (words : List ℕ) (used : ℕ) → AreOctreeWords words → 3 + 10 * used ≤ length words → IsBlankFrom words used
-    → IsStored (tree_with_used words used)
-used_stored words used h within blank =
-    let part : List ℕ = take (3 + 10 * used) words in
-    let len : length part ≡ 3 + 10 * used = length-take-le (3 + 10 * used) words within in
-    let same : at_of words ≡ at_of part = at_longer part words (omega arith) (λ i l. sym (get_or-take (3 + 10 * used) words i 0 (omega arith)))
-    (λ i l m. blank i (omega arith)) in
-    record {
-      few = omega (arith, h.few, h.long);
-      long = len;
-      used_held = omega (arith, within, h.long);
-      shallow = omega arith;
-      base_low = omega arith;
-      base_high = omega arith;
-      unlocked = record {
-        second = ap (λ (at : ℕ → ℕ). at 1) (sym same) ∙ h.unlocked.second;
-        third = ap (λ (at : ℕ → ℕ). at 2) (sym same) ∙ h.unlocked.third;
-        locks = λ c l. ap (λ (at : ℕ → ℕ). at (lock_place c)) (sym same) ∙ h.unlocked.locks c (omega (arith, within, h.long));
-      };
-      sound = subst (λ (at : ℕ → ℕ). IsSound at (at 0) 1) same h.sound;
-      cells_used = λ c r. cells_below words used h blank c (subst (λ (at : ℕ → ℕ). IsReached at (at 0) (cell_word c)) (sym same) r);
-      bodies_small = λ n r. h.bodies_small n (subst (λ (at : ℕ → ℕ). IsReached at (at 0) (body_word n)) (sym same) r);
-    }

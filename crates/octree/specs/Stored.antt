@@ -1,5 +1,5 @@
 -- An octree as it is stored: the words of its used cells, the key and the level of its cube, and how many of its cells are used and held.
-use Rattle.std.specs.Prelude.{ℕ, ◌+◌, ◌-◌, ◌*◌, ◌/◌, ◌^◌, ◌<◌, ◌≤◌, ◌≡◌, ◌⊎◌, ◌↔◌, List, ◌++◌, length, replicate, take}
+use Rattle.std.specs.Prelude.{ℕ, ◌+◌, ◌-◌, ◌*◌, ◌/◌, ◌^◌, ◌<◌, ◌≤◌, ◌≡◌, ◌⊎◌, ◌↔◌, List, ◌++◌, length, replicate}
 use Rattle.octant_code.specs.Space.{Site}
 use Rattle.octant_code.specs.declared.limits.TheConstants.{LEVELS, MOST_BODIES}
 use Rattle.octant_code.specs.Points.{site_at}
@@ -77,10 +77,6 @@ pub record AreOctreeWords (words : List ℕ) : Type 0 where
   pub sound : IsSound (at_of words) (at_of words 0) 1
   pub cells_held : (c : ℕ) → HasCell words c → c < cells
   pub bodies_small : (n : ℕ) → HasBody words n → n < MOST_BODIES
-
--- the octree of the whole cube that has the words of so many used cells, and holds as many as there are words of
-abbrev pub tree_with_used : List ℕ → ℕ → Stored
-tree_with_used words used = record { words = take (word_count used) words; base = 1; level = 0; used = used; held = cell_count_of (length words) }
 
 -- the octree of the whole cube that has the words, and no spare cell
 abbrev pub full_tree : List ℕ → Stored

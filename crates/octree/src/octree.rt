@@ -66,7 +66,7 @@ impl Octree {
     ghost use Rattle.octree.specs.Free.{AreFreeCells};
     ghost use Rattle.octree.specs.Node.{IsNodeOf};
     ghost use Rattle.octree.specs.Numbers.{IsNumberOf};
-    ghost use Rattle.octree.specs.Stored.{AreOctreeWords, IsBlankFrom, IsCanonical, IsInserted, IsOctreeOf, IsRoomier, IsStored, all_used, all_words, cells_of, full_tree, root_word, spare_of, tree_of, tree_with_used, word_count};
+    ghost use Rattle.octree.specs.Stored.{AreOctreeWords, IsBlankFrom, IsCanonical, IsInserted, IsOctreeOf, IsRoomier, IsStored, all_used, all_words, cells_of, full_tree, root_word, spare_of, tree_of, word_count};
     ghost use Rattle.octree.specs.Spot.{IsCellUnder, IsReachable, tree_under};
     ghost use Rattle.bh_model.specs.Trees.{height};
 
@@ -137,8 +137,7 @@ impl Octree {
     /// The words of a tree of the whole cube, those of its spare cells too, which are 0. It takes no
     /// memory.
     ///
-    /// Made a tree again by `of_words`, they are this tree, its spare cells counted as used; by
-    /// `with_used`, they are this tree.
+    /// Made a tree again by `of_words`, they are this tree, its spare cells counted as used.
     pub fn into_words(self) -> Vec<u64>
         requires { self.base ≡ 1 }
         ensures words { result.items ≡ all_words self }
@@ -147,7 +146,6 @@ impl Octree {
         ensures of_words { AreOctreeWords result.items }
         ensures spare { IsBlankFrom result.items self.used }
         ensures tree { full_tree result.items ≡ all_used self }
-        ensures again { tree_with_used result.items self.used ≡ self }
     {
         let Octree {
             mut words,
@@ -175,27 +173,6 @@ impl Octree {
             level: 0,
             used: held,
             held,
-        }
-    }
-
-    /// The tree of the whole cube that has the words, each cell with the number that it has there,
-    /// and whose cells from number `used` on, the words of which are 0, are spare. It takes no memory.
-    pub fn with_used(words: Vec<u64>, used: u32) -> Octree
-        requires words { AreOctreeWords words.items }
-        requires within { word_count used ≤ length words.items }
-        requires spare { IsBlankFrom words.items used }
-        ensures tree { result ≡ tree_with_used words.items used }
-        ensures count { length words.items ≡ word_count result.held }
-    {
-        let mut words = words;
-        let cells = cells_of_words(words.len());
-        words.truncate(words_of_cells(used));
-        Octree {
-            words,
-            base: 1,
-            level: 0,
-            used,
-            held: cells,
         }
     }
 

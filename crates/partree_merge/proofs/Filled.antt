@@ -3,8 +3,7 @@ use Rattle.std.proofs.Common.{ℕ, ◌≡◌, ◌+◌, ◌<◌, ◌↔◌, ◌++
 use Rattle.std.proofs.Common.{All}
 use Rattle.std.proofs.lemmas.List.Elements.{All-cons, All-nil}
 use Rattle.std.proofs.lemmas.List.{drop_more, take_all, take-append-drop, take_more}
-use Rattle.octant_code.specs.Space.{Site, IsUnder}
-use Rattle.octant_code.proofs.Keys.{key-zero}
+use Rattle.octant_code.specs.Space.{Site}
 use Rattle.bh_model.specs.Bodies.{IsIn, NoneTwice}
 use Rattle.bh_model.proofs.Lists.{in_append, in_left, in_right, once_apart}
 use Rattle.tree_passes.specs.Counting.{times}
@@ -30,12 +29,6 @@ not_before share i once less there =
     let whole : take i share ++ drop i share ≡ share = take-append-drop i share in
     once_apart (take i share) (drop i share) (subst NoneTwice (sym whole) once) (get_or share i 0) there
     (subst (λ (z : List ℕ). IsIn z (get_or share i 0)) (sym (drop_more share i 0 less)) (inl refl))
-
--- a member of a list
-pub member_at : (share : List ℕ) (i : ℕ) → i < length share → IsIn share (get_or share i 0)
-member_at share i less =
-    subst (λ (z : List ℕ). IsIn z (get_or share i 0)) (take-append-drop i share) (in_right (take i share) (drop i share) (get_or share i 0)
-    (subst (λ (z : List ℕ). IsIn z (get_or share i 0)) (sym (drop_more share i 0 less)) (inl refl)))
 
 -- one body more
 pub filled_more : (sites : List Site) (share : List ℕ) (before own next : Stored) (i : ℕ) → i < length share → IsFilled sites share before own i
@@ -65,10 +58,6 @@ pub filled_all : (sites : List Site) (share : List ℕ) (before own : Stored) (i
     → HasBody own.words x ↔ IsIn share x
 filled_all sites share before own i h all x =
     subst (λ (z : List ℕ). HasBody own.words x ↔ IsIn z x) (ap (λ (k : ℕ). take k share) all ∙ take_all (length share) share (omega arith)) (h.bodies x)
-
--- every point lies in the whole cube
-pub under_whole : (s : Site) (base : ℕ) → base ≡ 1 → IsUnder base s
-under_whole s base e = (0, omega arith, e ∙ sym (key-zero s))
 
 -- A list that has each body as often as a share has the bodies of the share, each once where the share has none twice.
 module _ (order share : List ℕ) (same : (x : ℕ) → times x order ≡ times x share) where

@@ -7,4 +7,4 @@ pub mod Making
 mod Shifts
 mod Finding
 mod Meetings
-mod PassingRule
+pub mod PassingRule

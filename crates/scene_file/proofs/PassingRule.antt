@@ -37,10 +37,17 @@ unfolding after_passes
 after-length [] bodies = refl
 after-length (p ∷ ps) bodies = after-length ps (shifted p bodies) ∙ shifted-length p bodies
 
-after_one : (passes : List (List Move)) (moves : List Move) (bodies : List Body)
+-- the bodies after one pass more
+pub after_one : (passes : List (List Move)) (moves : List Move) (bodies : List Body)
     → after_passes (passes ++ moves ∷ []) bodies ≡ shifted moves (after_passes passes bodies)
 unfolding after_passes
 after_one passes moves bodies = after-append passes (moves ∷ []) bodies
+
+-- and after those before the next number
+pub after_more : (passes : List (List Move)) (i : ℕ) (bodies : List Body) → i < length passes
+    → after_passes (take (i + 1) passes) bodies ≡ shifted (pass_at passes i) (after_passes (take i passes) bodies)
+after_more passes i bodies within =
+    ap (λ list. after_passes list bodies) (take_more passes i [] within) ∙ after_one (take i passes) (pass_at passes i) bodies
 
 -- one pass more has its moves more
 count_more : (passes : List (List Move)) (moves : List Move) → move_count (passes ++ moves ∷ []) ≡ move_count passes + length moves

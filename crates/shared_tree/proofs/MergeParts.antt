@@ -2,7 +2,7 @@
 use Rattle.std.proofs.Common.{ℕ, ◌+◌, ◌<◌, ◌≤◌, ◌≡◌, zero, suc, refl, sym, ◌∙◌, ap, arith, add-one, List, ◌++◌, length}
 use Rattle.std.proofs.lemmas.List.{length-append}
 use Rattle.bh_model.specs.Trees.{cell_count, cell_of, order}
-use Rattle.bh_model.proofs.Folds.{counts, counts_all, counts_next}
+use Rattle.bh_model.proofs.Folds.{counts, counts_all, counts_next, length_joined}
 use Rattle.bh_model.proofs.Lists.{joined}
 use Rattle.bh_model.proofs.Totals.{sum_upto, sum_upto-le, sum_upto-more}
 use Rattle.bh_model.proofs.Trees.{order-cell}
@@ -28,11 +28,6 @@ times_joined : (x : ℕ) (g : ℕ → List ℕ) (n : ℕ) → times x (joined g 
 unfolding sum_upto
 times_joined x g zero = refl
 times_joined x g (suc n) = let a = times-append x (joined g n) (g n) in let r = times_joined x g n in omega arith
-
-length_joined : (g : ℕ → List ℕ) (n : ℕ) → length (joined g n) ≡ sum_upto (λ j. length (g j)) n
-unfolding sum_upto
-length_joined g zero = refl
-length_joined g (suc n) = let a = length-append (joined g n) (g n) in let r = length_joined g n in omega arith
 
 -- those before a list, and the list, are among all
 times_among : (x : ℕ) (g : ℕ → List ℕ) (k n : ℕ) → k < n → times x (joined g k) + times x (g k) ≤ times x (joined g n)

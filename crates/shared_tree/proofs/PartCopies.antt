@@ -18,9 +18,9 @@ use Rattle.bh_model.proofs.Cells.{in_octant-keeps, in_octant-member}
 use Rattle.bh_model.proofs.Lists.{in_append, in_left, in_right}
 use Rattle.bh_model.proofs.MoreThan.{more_of_two}
 use Rattle.bh_model.proofs.Totals.{each_of_eight, sum_upto, sum_upto-more}
-use Rattle.tree_rule.specs.Flat.{Child, ChangedAt, Either, IsShared, IsWordOf, StandsAmid, StandsFor, Top}
+use Rattle.tree_rule.specs.Flat.{ChangedAt, Either, IsShared, StandsAmid, StandsFor, Top}
 use Rattle.tree_rule.specs.Words.{at_of, body_word, cell_word, child_place, key_place, lock_place}
-use Rattle.tree_rule.proofs.Laws.{Only, amid_moved, amid_same, graft_inside, stands_body, stands_empty, stands_moved, stands_same}
+use Rattle.tree_rule.proofs.Laws.{Only, amid_moved, amid_same, graft_inside, lone_body, lone_cell, stands_body, stands_empty, stands_moved, stands_same}
 use Rattle.octree.specs.Chain.{ArePair, IsOneOf}
 use Rattle.octree.specs.Spot.{Spot}
 use Rattle.octree.specs.Subtree.{IsCellAt, IsChildOf}
@@ -172,22 +172,7 @@ pub record IsCopiedUpTo (sites : List Site) (v w : View) (spare : List ℕ) (s :
   pub blank : (j : ℕ) → k ≤ j → j < 8 → at_of w.memory (child_place top j) ≡ 0
   pub keyed : at_of w.memory (key_place top) ≡ key
 
--- the word of a cell without children
-lone_cell : (at : ℕ → ℕ) (top key c key' : ℕ) → ((k : ℕ) → k < 8 → at (child_place top k) ≡ 0) → at (key_place top) ≡ key
-    → IsWordOf at (cell_word top) key (Only top) key' (cell_word c) → (c ≡ top) × (at (key_place c) ≡ key')
-lone_cell at top key c key' blank keyed (Top k e) =
-    let same : c ≡ top = omega arith in (same, ap (λ z. at (key_place z)) same ∙ keyed ∙ sym k)
-lone_cell at top key c key' blank keyed (Child d j p l k e) =
-    let none : at (child_place d j) ≡ 0 = ap (λ z. at (child_place z j)) p ∙ blank j l in absurd (omega arith)
-
--- names no body
-lone_body : (at : ℕ → ℕ) (top key n key' : ℕ) → ((k : ℕ) → k < 8 → at (child_place top k) ≡ 0)
-    → IsWordOf at (cell_word top) key (Only top) key' (body_word n) → ⊥
-lone_body at top key n key' blank (Top k e) = omega arith
-lone_body at top key n key' blank (Child d j p l k e) =
-    let none : at (child_place d j) ≡ 0 = ap (λ z. at (child_place z j)) p ∙ blank j l in omega arith
-
--- and stands for none
+-- a cell without children stands for no body
 lone_stands : (site : ℕ → Site) (at : ℕ → ℕ) (top key : ℕ) (B V : ℕ → Type 0) → ((k : ℕ) → k < 8 → at (child_place top k) ≡ 0)
     → at (key_place top) ≡ key → IsShared site V key → ((n : ℕ) → B n → ⊥) → StandsAmid site at (cell_word top) key (Only top) B V
 lone_stands site at top key B V blank keyed sh none = record {

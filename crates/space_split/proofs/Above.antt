@@ -3,17 +3,17 @@ use Rattle.std.proofs.Common.{ℕ, ◌+◌, ◌-◌, ◌*◌, ◌/◌, ◌^◌, 
 use Rattle.std.proofs.Common.{ap, subst, inl, inr, arith, List, [], ◌∷◌, ◌++◌, drop, length, take}
 use Rattle.std.proofs.Math.Nat.{div-le_self}
 use Rattle.std.proofs.lemmas.Bool.{cases_lt}
-use Rattle.std.proofs.lemmas.List.{length-take-le, map-append, take-append-drop}
+use Rattle.std.proofs.lemmas.List.{length-take-le, take-append-drop}
 use Rattle.octant_code.specs.Prefixes.{IsPrefix, IsProperPrefix}
 use Rattle.octant_code.specs.Space.{Site, IsUnder}
 use Rattle.octant_code.proofs.Nested.{off_twice}
 use Rattle.bh_model.specs.Bodies.{HasMoreThan, IsIn, NoneTwice}
 use Rattle.bh_model.specs.Pieces.{cubes_from, octants_of, of_octant}
 use Rattle.bh_model.proofs.Cells.{LieUnder, in_octant-member, in_octant-once, in_octant-under}
-use Rattle.bh_model.proofs.Lists.{in_append, in_left, once_front}
+use Rattle.bh_model.proofs.Lists.{in_left, once_front}
 use Rattle.bh_model.proofs.MoreThan.{more_so}
-use Rattle.bh_model.proofs.PieceKeys.{cubes_stand, keys_of}
-use Rattle.bh_model.proofs.Pieces.{cubes-few, cubes-last, cubes-many, cubes-none, rows}
+use Rattle.bh_model.proofs.PieceKeys.{cubes_stand, from_row, keys_of}
+use Rattle.bh_model.proofs.Pieces.{cubes-few, cubes-last, cubes-many, cubes-none}
 
 -- of a list with more members than a size, none twice, it is so of more
 pub more_of_list : (size : ℕ) (P : ℕ → Type 0) (xs : List ℕ) → size < length xs → NoneTwice xs → ((n : ℕ) → IsIn xs n → P n) → HasMoreThan size P
@@ -25,16 +25,6 @@ more_of_list size P xs many once each =
       once = once_front (take (suc size) xs) (drop (suc size) xs) (subst NoneTwice (sym whole) once);
       each = λ n i. each n (subst (λ (y : List ℕ). IsIn y n) whole (in_left (take (suc size) xs) (drop (suc size) xs) n i));
     }
-
--- a member of what the first octants give is one of an octant's
-from_row : (f : ℕ → List (ℕ × ℕ)) (m key : ℕ) → IsIn (keys_of (rows f m)) key → (k : ℕ) × (k < m) × IsIn (keys_of (f k)) key
-from_row f zero key i = absurd i
-from_row f (suc m) key i =
-    let both : keys_of (rows f (suc m)) ≡ keys_of (rows f m) ++ keys_of (f m) = map-append (λ (c : ℕ × ℕ). c.0) (rows f m) (f m) in
-    elim (in_append (keys_of (rows f m)) (keys_of (f m)) key (subst (λ (y : List ℕ). IsIn y key) both i)) [
-      | inl j ↦ let r = from_row f m key j in (r.0, omega (arith, r.1), r.2)
-      | inr j ↦ (m, omega arith, j)
-    ]
 
 -- no key is a proper prefix of one that is its prefix
 not_both : (key upper : ℕ) → IsPrefix key upper → IsProperPrefix upper key → ⊥

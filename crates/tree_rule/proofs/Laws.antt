@@ -19,7 +19,7 @@ pub use Rattle.tree_rule.proofs.Walk.{body_reached, cell_is_reached, cell_reache
 -- the same facts over sets with the same members, and over other words
 pub use Rattle.tree_rule.proofs.Walk.{amid_moved, amid_same, stands_moved, stands_same}
 -- small parts, cells over parts, and the cells that part two bodies
-pub use Rattle.tree_rule.proofs.Parts.{Among, HasParts, ItOr, Nothing, Only, cell_stands, lone_stands, stands_body, stands_none}
+pub use Rattle.tree_rule.proofs.Parts.{Among, HasParts, ItOr, Nothing, Only, cell_stands, lone_body, lone_cell, lone_stands, stands_body, stands_none}
 pub use Rattle.tree_rule.proofs.Chain.{fork_stands, link_stands, stands_empty}
 -- a word is replaced: what is put in, taken out, cut off and contracted
 pub use Rattle.tree_rule.proofs.Replace.{BodiesOutside, CellsOutside, Replaces, read_alone, read_under, replaced}

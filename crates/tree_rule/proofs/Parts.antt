@@ -177,13 +177,13 @@ cell_stands site at c key P M h = record {
 }
 
 -- a word of a cell whose children are empty that names a cell names this one
-lone_cell : (at : ℕ → ℕ) (c key d key' : ℕ) → ((k : ℕ) → k < 8 → at (child_place c k) ≡ 0) → at (key_place c) ≡ key
+pub lone_cell : (at : ℕ → ℕ) (c key d key' : ℕ) → ((k : ℕ) → k < 8 → at (child_place c k) ≡ 0) → at (key_place c) ≡ key
     → IsWordOf at (cell_word c) key (Only c) key' (cell_word d) → (d ≡ c) × (at (key_place d) ≡ key')
 lone_cell at c key d key' blank keyed (Top k e) = let same : d ≡ c = omega arith in (same, ap (λ y. at (key_place y)) same ∙ keyed ∙ sym k)
 lone_cell at c key d key' blank keyed (Child b j p l k e) = absurd (omega (arith, ap (λ y. at (child_place y j)) p, blank j l))
 
 -- and none names a body
-lone_body : (at : ℕ → ℕ) (c key n key' : ℕ) → ((k : ℕ) → k < 8 → at (child_place c k) ≡ 0)
+pub lone_body : (at : ℕ → ℕ) (c key n key' : ℕ) → ((k : ℕ) → k < 8 → at (child_place c k) ≡ 0)
     → IsWordOf at (cell_word c) key (Only c) key' (body_word n) → ⊥
 lone_body at c key n key' blank (Top k e) = omega arith
 lone_body at c key n key' blank (Child b j p l k e) = omega (arith, ap (λ y. at (child_place y j)) p, blank j l)

@@ -15,6 +15,7 @@ use Rattle.tree_rule.proofs.Names.{names_body, names_cell, word_of_body, word_of
 use Rattle.tree_rule.proofs.Canonical.{ACell, NoBody, OneBody, WordIs, word_is}
 use Rattle.tree_rule.proofs.Exact.{Stands, exact_of_stands, shared_of_more, word_published}
 use Rattle.bh_model.proofs.MoreThan.{more_of_two, two_of_more}
+pub use Rattle.bh_model.proofs.Lists.{member_at}
 
 -- the parts of the test together
 pub record AllRight (site : ℕ → Site) (at : ℕ → ℕ) (cells bodies : List ℕ) : Type 0 where
@@ -110,12 +111,6 @@ pub body_is_named : (site : ℕ → Site) (at : ℕ → ℕ) (cells bodies : Lis
     → IsNamedSomewhere at cells (body_word n)
 body_is_named site at cells bodies h n b = let o = h.body_once n b in
     record { key = o.key; place = o.place; published = o.published; named = word_of_body (at o.place) n o.named }
-
--- the number at a place of a list is a member
-pub member_at : (xs : List ℕ) (k : ℕ) → k < length xs → IsIn xs (get_or xs k 0)
-member_at [] k l = absurd (omega arith)
-member_at (x ∷ xs) zero l = inl refl
-member_at (x ∷ xs) (suc k) l = inr (member_at xs k (omega arith))
 
 -- what holds of the number at each place holds of each member
 pub each_member : (P : ℕ → Type 0) (xs : List ℕ) → ((k : ℕ) → k < length xs → P (get_or xs k 0)) → (n : ℕ) → IsIn xs n → P n

@@ -1,11 +1,11 @@
-use Rattle.std.proofs.Common.{◌≡◌, ◌∙◌, ◌<◌, ap, arith, length, sym, subst, take, List}
+use Rattle.std.proofs.Common.{◌≡◌, ◌∙◌, ◌<◌, ap, arith, length, sym, subst, List}
 use Rattle.bh_model.specs.declared.plan.Plan.{Plan}
 use Rattle.frame_core.specs.Engines.{EngineState, opened, with_tree}
-use Rattle.frame_core.specs.Next.{shifted_by}
-use Rattle.scene_file.specs.Moves.{IsPass, after_passes, pass_at, shifted}
+use Rattle.scene_file.specs.Moves.{IsPass, pass_at, shifted}
 use Rattle.scene_file.specs.declared.bodies.Body.{Body}
 use Rattle.scene_file.specs.declared.moves.Move.{Move}
-use Rattle.step_times.proofs.Passing.{after_more, after_none}
+use Rattle.scene_file.proofs.PassingRule.{after_more}
+use Rattle.step_times.proofs.Passing.{after_none}
 use Rattle.step_times.proofs.time_passes.Goals as goal
 
 pub loop-i-init : goal.loop-i-init

@@ -1,6 +1,7 @@
 use Rattle.std.proofs.Common.{arith}
 use Rattle.octant_code.specs.Points.{site_at}
-use Rattle.build_times.proofs.Filled.{filled_more, filled_none, under_whole}
+use Rattle.build_times.proofs.Filled.{filled_more, filled_none}
+use Rattle.octree.proofs.Laws.{under_whole}
 use Rattle.build_times.proofs.one_thread.insert_all.Goals as goal
 
 pub loop-n-init : goal.loop-n-init

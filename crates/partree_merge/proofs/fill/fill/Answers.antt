@@ -1,4 +1,4 @@
-use Rattle.std.proofs.Common.{◌≡◌, ◌-◌, ◌↔◌, ℕ, ◌∙◌, ap, arith, get_or, length}
+use Rattle.std.proofs.Common.{◌-◌, ◌↔◌, ℕ, ◌∙◌, ap, arith, get_or}
 use Rattle.octant_code.specs.Points.{site_at}
 use Rattle.bh_model.specs.Bodies.{IsIn}
 use Rattle.bh_model.specs.Trees.{octree_from, order}
@@ -6,7 +6,9 @@ use Rattle.tree_passes.proofs.Laws.{length-same}
 use Rattle.tree_rule.specs.Words.{HasBody}
 use Rattle.octree.specs.Stored.{tree_of}
 use Rattle.octree.proofs.Laws.{whole_level}
-use Rattle.partree_merge.proofs.Filled.{filled_all, filled_more, filled_none, in_order, member_at, not_before, once_in_order, under_whole}
+use Rattle.partree_merge.proofs.Filled.{filled_all, filled_more, filled_none, in_order, not_before, once_in_order}
+use Rattle.bh_model.proofs.Lists.{member_at}
+use Rattle.octree.proofs.Laws.{under_whole}
 use Rattle.partree_merge.proofs.fill.fill.Goals.{After-whole-whole}
 use Rattle.partree_merge.proofs.fill.fill.Goals as goal
 

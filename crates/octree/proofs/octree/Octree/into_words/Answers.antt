@@ -1,6 +1,6 @@
 use Rattle.std.proofs.Common.{List, ℕ, ◌≡◌, ◌∙◌, ap, subst, sym, vec_len}
-use Rattle.octree.specs.Stored.{AreOctreeWords, IsStored, Stored, all_words, full_tree, tree_with_used}
-use Rattle.octree.proofs.WholeWords.{all_are, filled, full_again, used_again}
+use Rattle.octree.specs.Stored.{AreOctreeWords, IsStored, Stored, all_words, full_tree}
+use Rattle.octree.proofs.WholeWords.{all_are, filled, full_again}
 use Rattle.octree.proofs.octree.Octree.into_words.Goals.{In-Ok}
 use Rattle.octree.proofs.octree.Octree.into_words.Goals as goal
 
@@ -20,6 +20,3 @@ returns-clause-of_words c = subst AreOctreeWords (sym (words_are c)) (all_are c.
 
 pub returns-clause-tree : goal.returns-clause-tree
 returns-clause-tree c = ap full_tree (words_are c) ∙ full_again c.args.self (rule c) c.requires
-
-pub returns-clause-again : goal.returns-clause-again
-returns-clause-again c = ap (λ (words : List ℕ). tree_with_used words c.args.self.used) (words_are c) ∙ used_again c.args.self (rule c) c.requires
