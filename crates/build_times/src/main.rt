@@ -18,7 +18,7 @@ mod one_thread;
 
 ghost use Rattle.bh_model.specs.Plans.{HasWorkers};
 
-use bh_outside::{Input, StdSource, read_all};
+use bh_outside::{Input, StdSource, keep_blocks, read_all};
 use frame_core::first_shares;
 use free_tree::FreeYard;
 use gate::NotingGate;
@@ -32,9 +32,6 @@ use std::env;
 use std::sync::{Arc, Wait};
 use std::thread::Threads;
 use std::time::{Clock, Instant};
-
-/// How many words of 64 bits make the block that `nbody` takes and gives back at its start.
-const BLOCK_WORDS: usize = 4_190_000;
 
 /// Up to how many workers a builder is timed with.
 const MOST_WORKERS: usize = 4;
@@ -239,13 +236,6 @@ fn tell<R: Eprint>(rt: &R, alloc: Global, first: Phases, least: &Times) -> anyho
         let name = format!(in alloc; "{}.{}", builder_of(build).name(), workers_of(build))?;
         tell_phases(rt, &name, least.builds[build])?;
     }
-    Ok(())
-}
-
-/// Takes a great block and gives it back as `nbody` does, so that the blocks of later trees are kept.
-fn keep_blocks(alloc: Global) -> Result<(), AllocError> {
-    let mut block: Vec<u64> = Vec::with_capacity(alloc, BLOCK_WORDS)?;
-    block.push(0)?;
     Ok(())
 }
 

@@ -20,7 +20,7 @@ ghost use Rattle.frame_core.specs.Engines.{WithFrame, WithTree};
 ghost use Rattle.mass_moments.specs.Kept.{IsCost};
 
 use bh_model::{Builder, Law, Plan};
-use bh_outside::{Input, Sink, StdSink, StdSource, read_all};
+use bh_outside::{Input, Sink, StdSink, StdSource, keep_blocks, read_all};
 use build_gate::OpenGate;
 use costzones::zones;
 use frame_core::Engine;
@@ -337,6 +337,7 @@ fn tell<R: Eprint>(rt: &R, times: &Times) -> anyhow::Result<()> {
 
 fn main(rt: HostRuntime) -> anyhow::Result<()> {
     let alloc = rt.alloc();
+    keep_blocks(alloc)?;
     let words: Vec<String> = env::args(&rt)?.skip(1).collect(alloc)?;
     let Some((law, rounds)) = asked(&words) else {
         return Ok(());

@@ -1,19 +1,14 @@
 //! Reads a scene of bodies from standard input, and writes to standard output what the program's words ask for.
 #![tactic(auto)]
 
-use bh_outside::{StdSink, StdSource};
+use bh_outside::{StdSink, StdSource, keep_blocks};
 use build_gate::OpenGate;
 use free_tree::FreeYard;
 use locked_tree::LockedYard;
 use nbody_cli::serve;
 use probe::{Balance, FirstFrames, Momentum, Probe};
-use std::alloc::{AllocError, Global};
 use std::process::ExitCode;
 use std::{env, io};
-
-/// How many words of 64 bits make a block just below 32 MiB, the greatest that the C library learns
-/// from when it is given back.
-const BLOCK_WORDS: usize = 4_190_000;
 
 /// How many frames the probe of the first frames sees.
 const FIRST_FRAMES: u32 = 3;
@@ -21,16 +16,6 @@ const FIRST_FRAMES: u32 = 3;
 /// The words after the program's name.
 fn words_of(rt: &HostRuntime) -> io::Result<Vec<String>> {
     Ok(env::args(rt)?.skip(1).collect(rt.alloc())?)
-}
-
-/// Takes one great block and gives it back, for speed alone: the block costs one touched page, and
-/// from then on the C library keeps what is given back, up to twice that size, for the blocks that
-/// come. Else each block of 128 KiB and more would be mapped anew and taken away at its end, and its
-/// pages would have to be zeroed again each time.
-fn keep_blocks(alloc: Global) -> Result<(), AllocError> {
-    let mut block: Vec<u64> = Vec::with_capacity(alloc, BLOCK_WORDS)?;
-    block.push(0)?;
-    Ok(())
 }
 
 fn main(rt: HostRuntime) -> ExitCode {

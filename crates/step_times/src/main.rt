@@ -18,7 +18,7 @@ ghost use Rattle.frame_core.specs.Next.{shifted_by};
 ghost use Rattle.scene_file.specs.Moves.{IsPass, IsScene};
 
 use bh_model::{Builder, Law, Plan, Pull};
-use bh_outside::{Input, StdSource, read_all};
+use bh_outside::{Input, StdSource, keep_blocks, read_all};
 use build_gate::OpenGate;
 use drift::Motion;
 use frame_core::Engine;
@@ -250,6 +250,7 @@ fn asked(words: &[String]) -> Option<(Plan, u32)> {
 
 fn main(rt: HostRuntime) -> anyhow::Result<()> {
     let alloc = rt.alloc();
+    keep_blocks(alloc)?;
     let words: Vec<String> = env::args(&rt)?.skip(1).collect(alloc)?;
     let Some((plan, steps)) = asked(&words) else {
         return Ok(());
