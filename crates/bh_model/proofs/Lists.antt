@@ -1,5 +1,6 @@
 -- What a filter, a join and a row of numbers have as members, and that none of them has a member twice.
-use Rattle.std.proofs.Common.{ℕ, ◌+◌, ◌<◌, add-one, ◌≡◌, ◌≢◌, ◌⊎◌, ◌↔◌, zero, suc, refl, sym, ◌∙◌, ap, subst, inl, inr, arith, List, [], ◌∷◌, ◌++◌, Bool, true, false, get_or, length}
+use Rattle.std.proofs.Common.{ℕ, ◌+◌, ◌<◌, add-one, ◌≡◌, ◌≢◌, ◌⊎◌, ◌↔◌, zero, suc, refl, sym, ◌∙◌, ap, subst, inl, inr, arith, List, [], ◌∷◌, ◌++◌}
+use Rattle.std.proofs.Common.{Bool, true, false, get_or, length}
 use Rattle.std.specs.List.{filter}
 use Rattle.std.proofs.lemmas.Bool.{cases_Bool, cases_lt}
 use Rattle.bh_model.specs.Bodies.{IsIn, NoneTwice, numbers}

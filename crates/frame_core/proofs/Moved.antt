@@ -69,7 +69,8 @@ pub drifted_is : (e : EngineState) (step : ℕ) (bodies : List Body) (motion : L
     → pulls ≡ pulls_of e.plan.law e.bodies → step ≡ next_number e.step → bodies ≡ bodies_at (whole_points (stepped pulls e.motion)) e.bodies
     → motion ≡ stepped pulls e.motion → costs ≡ map cost_after pulls
     → shares ≡ zones (cost_at e.costs) e.plan.workers (tree_of_bodies e.bodies)
-    → (let next : EngineState = record e { step = step; bodies = bodies; motion = motion; costs = costs; shares = shares; stage = WithoutTree } in next ≡ drifted e)
+    → (let next : EngineState = record e { step = step; bodies = bodies; motion = motion; costs = costs; shares = shares; stage = WithoutTree } in
+      next ≡ drifted e)
 drifted_is e step bodies motion costs shares pulls found number points moves counts cut =
     let made : ℕ → List Body → List BodyMotion → List ℕ → List (List ℕ) → EngineState =
     λ n b m c s. record e { step = n; bodies = b; motion = m; costs = c; shares = s; stage = WithoutTree } in

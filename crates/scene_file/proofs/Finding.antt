@@ -1,5 +1,6 @@
 -- How bodies are found at the points where they are.
-use Rattle.std.proofs.Common.{◌≡◌, ◌≢◌, ◌∙◌, ◌<◌, ◌≤◌, ◌+◌, ◌==◌, ℕ, Bool, true, false, cond, List, ◌∷◌, All, length, drop, get_or, Option, Some, None, refl, sym, ap}
+use Rattle.std.proofs.Common.{◌≡◌, ◌≢◌, ◌∙◌, ◌<◌, ◌≤◌, ◌+◌, ◌==◌, ℕ, Bool, true, false, cond, List, ◌∷◌, All, length, drop, get_or, Option, Some}
+use Rattle.std.proofs.Common.{None, refl, sym, ap}
 use Rattle.std.proofs.Common.{arith, inl, inr, eqb-true, eq-eqb}
 use Rattle.std.proofs.Math.ListN.{get_or-map}
 use Rattle.std.proofs.lemmas.Bool.{cases_Bool, cases_lt}
@@ -127,7 +128,8 @@ other_here bodies i b s t within is told other before k less =
       | inl earlier ↦ before k earlier
       | inr last ↦ λ e.
           let same : k ≡ i = omega arith in
-          let at : b.at ≡ s = ap (λ (y : Body). y.at) (get_or_read bodies i b within is nobody) ∙ sym (site_is bodies i) ∙ ap (λ n. site_at (sites_of bodies) n) (sym same) ∙ e in
+          let at : b.at ≡ s = ap (λ (y : Body). y.at) (get_or_read bodies i b within is nobody) ∙ sym (site_is bodies i)
+            ∙ ap (λ n. site_at (sites_of bodies) n) (sym same) ∙ e in
           let met : same_coordinates b.at s ≡ true = rw at (same_coordinates_refl s) in
           let both : true ≡ false = sym met ∙ sym told ∙ other in
           cc

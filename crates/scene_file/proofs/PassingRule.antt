@@ -1,11 +1,13 @@
 -- What is kept while moves and passes are read.
-use Rattle.std.proofs.Common.{◌≡◌, ◌≢◌, ◌∙◌, ◌<◌, ◌≤◌, ◌+◌, ◌==◌, ◌||◌, ℕ, zero, suc, Bool, true, false, List, [], ◌∷◌, ◌++◌, All, length, take, get_or, replicate, Option, None}
+use Rattle.std.proofs.Common.{◌≡◌, ◌≢◌, ◌∙◌, ◌<◌, ◌≤◌, ◌+◌, ◌==◌, ◌||◌, ℕ, zero, suc, Bool, true, false, List, [], ◌∷◌, ◌++◌, All, length, take}
+use Rattle.std.proofs.Common.{get_or, replicate, Option, None}
 use Rattle.std.proofs.Common.{Ok, refl, sym, ap, arith, inl, inr, add-one, zero-add, eqb-true, eq-eqb, length-append}
 use Rattle.std.specs.Prelude.{nat_le, slice_set}
 use Rattle.std.proofs.Math.Seq.{get_or-append_seam, take-append_seam, take-length}
 use Rattle.std.proofs.lemmas.Bool.{cases_Bool, cases_lt}
 use Rattle.std.proofs.lemmas.Bool.Decides.{nat_tests}
-use Rattle.std.proofs.lemmas.List.{get_or-replicate, get_or-set_other, get_or-set_same, get_or_append_left, length-replicate, length-set, take-append-le, take_more}
+use Rattle.std.proofs.lemmas.List.{get_or-replicate, get_or-set_other, get_or-set_same, get_or_append_left, length-replicate, length-set}
+use Rattle.std.proofs.lemmas.List.{take-append-le, take_more}
 use Rattle.std.proofs.lemmas.List.Elements.{All-append, All-get_or}
 use Rattle.std.proofs.lemmas.List.Folds.{list_any-append}
 use Rattle.std.proofs.lemmas.List.Sums.{sum_by-append}
@@ -24,7 +26,8 @@ use Rattle.scene_file.proofs.Shifts.{shifted-length, shifted_rule}
 -- bodies alone are a scene
 pub scene_none : (bodies : List Body) → AreBodies bodies → IsScene (record { bodies = bodies; passes = [] })
 scene_none bodies rule =
-    record { bodies = rule; passes = λ i less. absurd (omega arith); few_passes = omega arith; few_moves = omega arith; in_cube = λ i d less. absurd (omega arith) }
+    record { bodies = rule; passes = λ i less. absurd (omega arith); few_passes = omega arith; few_moves = omega arith;
+      in_cube = λ i d less. absurd (omega arith) }
 
 -- passes move bodies one after another
 pub after-append : (passes more : List (List Move)) (bodies : List Body) → after_passes (passes ++ more) bodies ≡ after_passes more (after_passes passes bodies)

@@ -1,5 +1,6 @@
 -- The places of the words of bodies, share by share.
-use Rattle.std.proofs.Common.{ℕ, ◌+◌, ◌<◌, ◌≡◌, ◌∙◌, ap, subst, sym, refl, inl, inr, arith, append_assoc, true, false, not, Result, Ok, Err, IfOk, List, [], ◌∷◌, ◌++◌, get_or, length, take}
+use Rattle.std.proofs.Common.{ℕ, ◌+◌, ◌<◌, ◌≡◌, ◌∙◌, ap, subst, sym, refl, inl, inr, arith, append_assoc, true, false, not, Result, Ok, Err, IfOk}
+use Rattle.std.proofs.Common.{List, [], ◌∷◌, ◌++◌, get_or, length, take}
 use Rattle.std.proofs.lemmas.Bool.{cases_lt}
 use Rattle.std.proofs.lemmas.List.{append-nil, take_more}
 use Rattle.std.proofs.lemmas.List.Elements.{filter-append}

@@ -16,7 +16,8 @@ use Rattle.update_build.proofs.Leaving.{all_of_more}
 use Rattle.tree_passes.proofs.Laws.{same-eq, same-ne, times-append, times-without, times-without_all, times_take}
 use Rattle.tree_passes.specs.Counting.{sum_of, times}
 use Rattle.update_build.specs.declared.sweep.SweepView.{SweepView}
-use Rattle.update_build.specs.Sweeping.{AreSwept, CanEmpty, HasEmptied, Mine, SweepOpening, Sweeps, given_places, kept_places, nothing_left, removed_one, together, with_removed}
+use Rattle.update_build.specs.Sweeping.{AreSwept, CanEmpty, HasEmptied, Mine, SweepOpening, Sweeps, given_places, kept_places, nothing_left}
+use Rattle.update_build.specs.Sweeping.{removed_one, together, with_removed}
 
 -- ---- sums over views
 

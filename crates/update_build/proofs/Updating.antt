@@ -124,7 +124,8 @@ pub record IsTaken (olds news : List Site) (old tree : Stored) (shares lists : L
   pub lists_are : lists ≡ map (movers_in olds news) shares
   pub bodies_are : (n : ℕ) → times n bodies ≡ times_in_all n lists
 
-module _ {olds news : List Site} {old tree : Stored} {shares lists : List (List ℕ)} {bodies : List ℕ} (taken : IsTaken olds news old tree shares lists bodies) where
+module _ {olds news : List Site} {old tree : Stored} {shares lists : List (List ℕ)} {bodies : List ℕ}
+    (taken : IsTaken olds news old tree shares lists bodies) where
   -- all bodies
   abbrev all : List ℕ
   all = numbers (length news)
@@ -181,7 +182,8 @@ module _ {olds news : List Site} {old tree : Stored} {shares lists : List (List 
   stay_tree law = law others (none_twice-filter keeps all (numbers_once (length news))) taken.stays.bodies
 
   old_placed : ArePlaced (site_at olds) all
-  old_placed = subst (λ (k : ℕ). ArePlaced (site_at olds) (numbers k)) taken.many (placed_of_points olds (numbers (length olds)) taken.old_points (numbers_within (length olds)))
+  old_placed = subst (λ (k : ℕ). ArePlaced (site_at olds) (numbers k)) taken.many
+    (placed_of_points olds (numbers (length olds)) taken.old_points (numbers_within (length olds)))
 
   new_placed : ArePlaced (site_at news) all
   new_placed = placed_of_points news all taken.new_points (numbers_within (length news))

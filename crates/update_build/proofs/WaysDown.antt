@@ -10,7 +10,8 @@ use Rattle.bh_model.specs.Movers.{is_under, leaf_keys_from}
 use Rattle.bh_model.specs.Trees.{Tree, octree}
 use Rattle.bh_model.proofs.Lists.{in_joined, joined_in}
 use Rattle.bh_model.proofs.Movers.{any_member, is_under_so, leaf-body, leaf-cell, leaf-empty, member_any}
-use Rattle.tree_rule.proofs.Laws.{ACell, NoBody, OneBody, WordIs, cell_above, one_key_of_body, one_word, place_of_word, sharer, tree-body, tree-cell, tree-empty}
+use Rattle.tree_rule.proofs.Laws.{ACell, NoBody, OneBody, WordIs, cell_above, one_key_of_body, one_word, place_of_word, sharer, tree-body}
+use Rattle.tree_rule.proofs.Laws.{tree-cell, tree-empty}
 use Rattle.tree_rule.proofs.Laws.{word_at_place, word_is, word_over}
 use Rattle.tree_rule.specs.Flat.{Child, ChildPlace, IsPlaceOf, IsWordOf, Top, TopPlace}
 use Rattle.tree_rule.specs.Words.{HasBody, HasCell, at_of, body_word, cell_word, child_place, key_place, tree_from}

@@ -23,5 +23,6 @@ invariant_of-self-2 c =
     let read = get_or_read fields.named.items move.body c.index.result.now within c.index.ensures 0 in
     let differ = c.if-index-pass.false in
     let other : (get_or fields.named.items move.body 0 == pass) ≡ false = grind (arith, nat_tests) in
-    passing_step (record { bodies = fields.bodies.items; passes = passes; moves = fields.moves.items }) fields.present.items _ fields.named.items fields.count move
+    passing_step (record { bodies = fields.bodies.items; passes = passes; moves = fields.moves.items }) fields.present.items _ fields.named.items
+      fields.count move
     c.push.new.self.items pass c.self.invariant c.in-Ok.ensures.items is (omega arith) within other c.requires
