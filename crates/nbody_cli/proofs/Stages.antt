@@ -10,7 +10,7 @@ use Rattle.frame_core.specs.Next.{drifted, pass_frames, run_frames, shifted_by}
 use Rattle.nbody_options.specs.Choices.{Choices}
 use Rattle.nbody_options.specs.declared.options.Command.{Command}
 use Rattle.nbody_options.specs.declared.options.Command.TheVariants as command
-use Rattle.nbody_cli.proofs.Turns.{GoesOn, none_published, on_begin, on_more, on_stop, part_shown, still}
+use Rattle.nbody_cli.proofs.Turns.{GoesOn, none_published, on_begin, on_more, on_stop, part_refused, part_shown, still}
 use Rattle.nbody_cli.specs.Frames.{trial_lines}
 use Rattle.nbody_cli.specs.Lines.{TextLine, lines_text}
 use Rattle.nbody_cli.specs.Probes.{left_after, lines_at, probe_lines}
@@ -184,9 +184,9 @@ none_kept command.Run choice all other = absurd (other refl)
 none_kept command.Trial choice all other = refl
 
 -- the first frame
-pub way_begin : (makes : Builder → Type 0) (all : List ProbeState) (o : Choices) (scene : SceneParts) (b : Output) (e : EngineState) (ps : List ProbeState)
+pub way_begin : {makes : Builder → Type 0} {all : List ProbeState} {o : Choices} {scene : SceneParts} {b : Output} {e : EngineState} {ps : List ProbeState}
     → makes o.plan.builder → e ≡ opened o.plan scene.bodies → ps ≡ kept_probes o.command o.probe all → IsOnTheWay makes all o scene b 0 b e ps
-way_begin makes all o scene b e ps builder is kept =
+way_begin {makes = makes} {all = all} {o = o} {scene = scene} {b = b} {ps = ps} builder is kept =
     let first = opened o.plan scene.bodies in
     let P : EngineState → Type 0 = λ x. IsOnTheWay makes all o scene b 0 b x ps in
     let R : List ProbeState → Type 0 = λ x. IsOnTheWay makes all o scene b 0 b first x in
@@ -199,12 +199,15 @@ way_begin makes all o scene b e ps builder is kept =
       kept = λ other. none_kept o.command o.probe all other;
     }))
 
+-- the parts that are left behind that of a frame
+abbrev parts_later : List ProbeState → Choices → List (List Move) → ℕ → EngineState → List Part
+parts_later ps o passes i e = parts_left (left_after (frame_of e) ps) o passes (count_of o passes - (i + 1)) (i + 1) (next o passes i e)
+
 -- the parts that are left where a frame is
-way_left : (makes : Builder → Type 0) (all : List ProbeState) (o : Choices) (scene : SceneParts) (b : Output) (i : ℕ) (now : Output) (e : EngineState)
-    (ps : List ProbeState) → i < count_of o scene.passes → IsOnTheWay makes all o scene b i now e ps
-    → GoesOn (command_parts all o scene) (part_of_frame ps o e ∷ parts_left (left_after (frame_of e) ps) o scene.passes
-    (count_of o scene.passes - (i + 1)) (i + 1) (next o scene.passes i e)) b now
-way_left makes all o scene b i now e ps less way =
+way_left : {makes : Builder → Type 0} {all : List ProbeState} {o : Choices} {scene : SceneParts} {b : Output} {i : ℕ} {now : Output} {e : EngineState} {ps : List ProbeState} → i < count_of o scene.passes
+    → IsOnTheWay makes all o scene b i now e ps
+    → GoesOn (command_parts all o scene) (part_of_frame ps o e ∷ parts_later ps o scene.passes i e) b now
+way_left {all = all} {o = o} {scene = scene} {b = b} {i = i} {now = now} {e = e} {ps = ps} less way =
     let P : List Part → Type 0 = λ parts. GoesOn (command_parts all o scene) parts b now in
     let one : count_of o scene.passes - i ≡ suc (count_of o scene.passes - (i + 1)) = omega arith in
     subst P (ap (λ k. parts_left ps o scene.passes k i e) one ∙ left_more ps o scene.passes (count_of o scene.passes - (i + 1)) i e) way.on
@@ -220,32 +223,65 @@ next_bodies command.Passes steps passes i e first is within bodies =
 next_bodies command.Run steps passes i e first is within bodies = cc
 next_bodies command.Trial steps passes i e first is within bodies = cc
 
--- a frame is whole, the bodies moved on, and the probes saw it
-pub way_next : (makes : Builder → Type 0) (all : List ProbeState) (o : Choices) (scene : SceneParts) (b : Output) (i : ℕ) (now then : Output)
-    (e e' : EngineState) (ps ps' : List ProbeState) (s : Status) → i < count_of o scene.passes → IsOnTheWay makes all o scene b i now e ps
-    → RunsPart (part_of_frame ps o e) now then s → s ≡ status.Done → e' ≡ moved_on o.command o.steps scene.passes i (with_parts o.command (with_tree e))
-    → ps' ≡ left_after (frame_of e) ps → IsOnTheWay makes all o scene b (i + 1) then e' ps'
-way_next makes all o scene b i now then e e' ps ps' s less way part done moved seen =
-    let left = left_after (frame_of e) ps in
+-- the pass of a number can be one over the bodies of its frame, whose tree was made
+pub way_pass : {makes : Builder → Type 0} {all : List ProbeState} {o : Choices} {scene : SceneParts} {b : Output} {i : ℕ} {now : Output} {e e1 : EngineState} {ps : List ProbeState}
+    → IsScene scene → IsOnTheWay makes all o scene b i now e ps → e1 ≡ with_tree e → o.command ≡ command.Passes → i < length scene.passes
+    → IsPass e1.bodies (pass_at scene.passes i)
+way_pass {scene = scene} {i = i} accepted way made passes within =
+    let P : List Body → Type 0 = λ bodies. IsPass bodies (pass_at scene.passes i) in
+    subst P (sym (ap (λ (x : EngineState). x.bodies) made ∙ way.bodies passes (omega arith))) (accepted.passes i within)
+
+-- ---- one turn
+
+-- the part of a frame whose tree was made and shown
+part_made : (ps : List ProbeState) (o : Choices) (e e1 : EngineState) (w v : Option (List ℕ)) (k l : ℕ) (y z : YardCounts) (s : Status)
+    → e1 ≡ with_tree e → IsCounted y → Rises (builder_publishes e) y z
+    → Shows (lines_text (lines_of_frame o.command o e1) ++ lines_at (frame_of e1) ps) w k v l s
+    → RunsPart (part_of_frame ps o e) (output w k y) (output v l z) s
+part_made ps o e e1 w v k l y z s made counted rose h =
+    let P : EngineState → Type 0 = λ x. Shows (lines_text (lines_of_frame o.command o x) ++ lines_at (frame_of x) ps) w k v l s in
+    part_shown (part_of_frame ps o e) w v k l y z s counted rose (subst P made h)
+
+-- the tree of a frame was refused
+pub way_refused : {makes : Builder → Type 0} {all : List ProbeState} {o : Choices} {scene : SceneParts} {b : Output} {i end : ℕ} {w : Option (List ℕ)} {k : ℕ} {y z : YardCounts} {e : EngineState} {ps : List ProbeState}
+    → i < end → end ≡ count_of o scene.passes → IsOnTheWay makes all o scene b i (output w k y) e ps → z ≡ y
+    → Runs (command_parts all o scene) b (output w k z) status.Memory
+way_refused {all = all} {o = o} {scene = scene} {b = b} {i = i} {w = w} {k = k} {y = y} {z = z} {e = e} {ps = ps} less count way same =
+    on_stop (command_parts all o scene) (parts_later ps o scene.passes i e) (part_of_frame ps o e) b (output w k y) (output w k z) status.Memory
+    (way_left (omega arith) way) (part_refused (part_of_frame ps o e) w k y z same) (λ e. cc)
+
+-- the run stopped as a frame whose tree was made was shown
+pub way_stop : {makes : Builder → Type 0} {all : List ProbeState} {o : Choices} {scene : SceneParts} {b : Output} {i end : ℕ} {w : Option (List ℕ)} {k : ℕ} {y z : YardCounts} {e e1 : EngineState} {ps : List ProbeState} {s : Status}
+    (v : Option (List ℕ)) (l : ℕ) → i < end → end ≡ count_of o scene.passes → IsOnTheWay makes all o scene b i (output w k y) e ps → e1 ≡ with_tree e → IsCounted y
+    → Rises (builder_publishes e) y z → Shows (lines_text (lines_of_frame o.command o e1) ++ lines_at (frame_of e1) ps) w k v l s
+    → (s ≡ status.Done → ⊥) → Runs (command_parts all o scene) b (output v l z) s
+way_stop {all = all} {o = o} {scene = scene} {b = b} {i = i} {w = w} {k = k} {y = y} {z = z} {e = e} {e1 = e1} {ps = ps} {s = s} v l less count
+    way made counted rose shown other =
+    on_stop (command_parts all o scene) (parts_later ps o scene.passes i e) (part_of_frame ps o e) b (output w k y) (output v l z) s
+    (way_left (omega arith) way) (part_made ps o e e1 w v k l y z s made counted rose shown) other
+
+-- a frame whose tree was made is whole, the bodies moved on, and the probes saw it
+pub way_next : {makes : Builder → Type 0} {all : List ProbeState} {o : Choices} {scene : SceneParts} {b : Output} {i end : ℕ} {w v : Option (List ℕ)} {k l : ℕ} {y z : YardCounts} {e e1 e' : EngineState} {ps ps' : List ProbeState} {s : Status}
+    → i < end → end ≡ count_of o scene.passes → IsOnTheWay makes all o scene b i (output w k y) e ps → e1 ≡ with_tree e → IsCounted y
+    → Rises (builder_publishes e) y z → Shows (lines_text (lines_of_frame o.command o e1) ++ lines_at (frame_of e1) ps) w k v l s → s ≡ status.Done
+    → e' ≡ moved_on o.command o.steps scene.passes i (with_parts o.command e1) → ps' ≡ left_after (frame_of e1) ps
+    → IsOnTheWay makes all o scene b (i + 1) (output v l z) e' ps'
+way_next {makes = makes} {all = all} {o = o} {scene = scene} {b = b} {i = i} {w = w} {v = v} {k = k} {l = l} {y = y} {z = z} {e = e} {e1 = e1} {ps = ps} {ps' = ps'} {s = s}
+    less count way made counted rose shown done moved seen =
+    let then = output v l z in
+    let first = next o scene.passes i e in
     let P : EngineState → Type 0 = λ x. IsOnTheWay makes all o scene b (i + 1) then x ps' in
-    let R : List ProbeState → Type 0 = λ x. IsOnTheWay makes all o scene b (i + 1) then (next o scene.passes i e) x in
-    subst P (sym moved) (subst R (sym seen) (record {
-      on = on_more (command_parts all o scene) (parts_left left o scene.passes (count_of o scene.passes - (i + 1)) (i + 1) (next o scene.passes i e))
-          (part_of_frame ps o e) b now then s (way_left makes all o scene b i now e ps less way) part done;
+    let R : List ProbeState → Type 0 = λ x. IsOnTheWay makes all o scene b (i + 1) then first x in
+    let moved_as = moved ∙ ap (λ (x : EngineState). moved_on o.command o.steps scene.passes i (with_parts o.command x)) made in
+    let seen_as = seen ∙ ap (λ (x : EngineState). left_after (frame_of x) ps) made in
+    subst P (sym moved_as) (subst R (sym seen_as) (record {
+      on = on_more (command_parts all o scene) (parts_later ps o scene.passes i e) (part_of_frame ps o e) b (output w k y) then s
+          (way_left (omega arith) way) (part_made ps o e e1 w v k l y z s made counted rose shown) done;
       bare = next_bare o.command o.steps scene.passes i e;
       builder = next_builder makes o.command o.steps scene.passes i e way.builder;
       bodies = λ passes within. next_bodies o.command o.steps scene.passes i e scene.bodies passes (omega arith) (way.bodies passes (omega arith));
       kept = λ other. ap (left_after (frame_of e)) (way.kept other);
     }))
-
--- the run stopped in a frame
-pub way_stop : (makes : Builder → Type 0) (all : List ProbeState) (o : Choices) (scene : SceneParts) (b : Output) (i : ℕ) (now a : Output) (e : EngineState)
-    (ps : List ProbeState) (s : Status) → i < count_of o scene.passes → IsOnTheWay makes all o scene b i now e ps
-    → RunsPart (part_of_frame ps o e) now a s → (s ≡ status.Done → ⊥) → Runs (command_parts all o scene) b a s
-way_stop makes all o scene b i now a e ps s less way part other =
-    on_stop (command_parts all o scene)
-    (parts_left (left_after (frame_of e) ps) o scene.passes (count_of o scene.passes - (i + 1)) (i + 1) (next o scene.passes i e))
-    (part_of_frame ps o e) b now a s (way_left makes all o scene b i now e ps less way) part other
 
 -- the last part ends a run, whatever its status
 runs_last : (all : List Part) (p : Part) (b now a : Output) (s : Status) → GoesOn all (p ∷ []) b now → RunsPart p now a s → Runs all b a s
@@ -257,45 +293,16 @@ runs_last all p b now a status.Scene way h = absurd h
 runs_last all p b now a status.Memory way h = on_stop all [] p b now a status.Memory way h (λ e. cc)
 
 -- all frames are whole, and the probes that are left tell their lines
-pub way_end : (makes : Builder → Type 0) (all : List ProbeState) (o : Choices) (scene : SceneParts) (b : Output) (i : ℕ) (w v : Option (List ℕ)) (k l : ℕ)
-    (y : YardCounts) (e : EngineState) (ps : List ProbeState) (s : Status) → count_of o scene.passes ≤ i
-    → IsOnTheWay makes all o scene b i (output w k y) e ps → IsCounted y → Shows (probe_lines ps) w k v l s
-    → Runs (command_parts all o scene) b (output v l y) s
-way_end makes all o scene b i w v k l y e ps s past way counted shown =
+pub way_end : {makes : Builder → Type 0} {all : List ProbeState} {o : Choices} {scene : SceneParts} {b : Output} {i end : ℕ} {w : Option (List ℕ)} {k : ℕ} {y : YardCounts} {e : EngineState} {ps : List ProbeState}
+    (v : Option (List ℕ)) (l : ℕ) (s : Status) → end ≤ i → end ≡ count_of o scene.passes → IsOnTheWay makes all o scene b i (output w k y) e ps → IsCounted y
+    → Shows (probe_lines ps) w k v l s → Runs (command_parts all o scene) b (output v l y) s
+way_end {all = all} {o = o} {scene = scene} {b = b} {i = i} {w = w} {k = k} {y = y} {e = e} {ps = ps} v l s past count way counted
+    shown =
     let P : List Part → Type 0 = λ parts. GoesOn (command_parts all o scene) parts b (output w k y) in
     let none : count_of o scene.passes - i ≡ 0 = omega arith in
     let last = subst P (ap (λ n. parts_left ps o scene.passes n i e) none ∙ left_none ps o scene.passes i e) way.on in
     runs_last (command_parts all o scene) (without_tree (probe_lines ps)) b (output w k y) (output v l y) s last
     (part_shown (without_tree (probe_lines ps)) w v k l y y s counted (none_published y counted) shown)
-
--- the pass of a number can be one over the bodies of its frame
-pub way_pass : (makes : Builder → Type 0) (all : List ProbeState) (o : Choices) (scene : SceneParts) (b : Output) (i : ℕ) (now : Output) (e : EngineState)
-    (ps : List ProbeState) → IsScene scene → IsOnTheWay makes all o scene b i now e ps → o.command ≡ command.Passes → i < length scene.passes
-    → IsPass (with_tree e).bodies (pass_at scene.passes i)
-way_pass makes all o scene b i now e ps accepted way passes within =
-    let P : List Body → Type 0 = λ bodies. IsPass bodies (pass_at scene.passes i) in
-    subst P (sym (way.bodies passes (omega arith))) (accepted.passes i within)
-
--- ---- one turn
-
--- the part of a frame whose tree was made and shown
-pub part_made : (ps : List ProbeState) (o : Choices) (e e1 : EngineState) (w v : Option (List ℕ)) (k l : ℕ) (y z : YardCounts) (s : Status)
-    → e1 ≡ with_tree e → IsCounted y → Rises (builder_publishes e) y z
-    → Shows (lines_text (lines_of_frame o.command o e1) ++ lines_at (frame_of e1) ps) w k v l s
-    → RunsPart (part_of_frame ps o e) (output w k y) (output v l z) s
-part_made ps o e e1 w v k l y z s made counted rose h =
-    let P : EngineState → Type 0 = λ x. Shows (lines_text (lines_of_frame o.command o x) ++ lines_at (frame_of x) ps) w k v l s in
-    part_shown (part_of_frame ps o e) w v k l y z s counted rose (subst P made h)
-
--- the probes that are left, after a tree that was made
-pub seen_as : (ps left : List ProbeState) (e e1 : EngineState) → e1 ≡ with_tree e → left ≡ left_after (frame_of e1) ps → left ≡ left_after (frame_of e) ps
-seen_as ps left e e1 made seen = seen ∙ ap (λ (x : EngineState). left_after (frame_of x) ps) made
-
--- the engine of the next frame, after that of a tree that was made
-pub moved_as : (c : Command) (steps : ℕ) (passes : List (List Move)) (i : ℕ) (e e1 e' : EngineState) → e1 ≡ with_tree e
-    → e' ≡ moved_on c steps passes i (with_parts c e1)
-    → e' ≡ moved_on c steps passes i (with_parts c (with_tree e))
-moved_as c steps passes i e e1 e' made moved = moved ∙ ap (λ (x : EngineState). moved_on c steps passes i (with_parts c x)) made
 
 -- ---- what is shown
 

@@ -1,5 +1,5 @@
 -- Why the parts of a text stand one after another, and what they publish together.
-use Rattle.std.proofs.Common.{◌≡◌, ◌∙◌, ◌≤◌, ◌+◌, ◌-◌, ◌^◌, ℕ, List, [], ◌∷◌, Option, refl, sym, ap, subst, arith, inl, inr}
+use Rattle.std.proofs.Common.{◌≡◌, ◌∙◌, ◌<◌, ◌≤◌, ◌+◌, ◌-◌, ◌^◌, ℕ, List, [], ◌∷◌, Option, refl, sym, ap, subst, arith, inl, inr}
 use Rattle.bh_outside.specs.Outside.{Took, TookPrefix}
 use Rattle.bh_outside.proofs.Takings.{no_prefix, prefix_more, prefix_then, rose_later, took_more, took_none}
 use Rattle.bh_model.specs.declared.plan.Builder.{Builder}
@@ -17,6 +17,11 @@ use Rattle.nbody_cli.specs.declared.status.Status.TheVariants as status
 -- a yard that is as it was
 pub stayed : (p : Publications) (y : YardCounts) → RisesAtMost p y y
 stayed p y = (omega arith, omega arith, omega arith, omega arith)
+
+-- a yard whose counts were read, as numbers of 64 bits
+pub counts_read : {y : YardCounts} {published changes : ℕ} → published < 2 ^ 64 → published ≡ y.published → changes < 2 ^ 64 → changes ≡ y.changes
+    → IsCounted y
+counts_read small published few changes = record { published = omega arith; changes = omega arith }
 
 -- a count of 64 bits that rose by so many
 risen_within : (count n : ℕ) → count ≤ 2 ^ 64 - 1 → (count ≤ risen count n) × (risen count n ≤ count + n)

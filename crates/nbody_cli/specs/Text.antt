@@ -5,7 +5,7 @@ use Rattle.frame_core.specs.Building.{Publications, one_for_each}
 use Rattle.frame_core.specs.Engines.{EngineState, builder_publishes, frame_of, opened, with_tree}
 use Rattle.frame_core.specs.Next.{pass_frames, run_frames, sum_publications}
 use Rattle.nbody_cli.specs.Frames.{frame_lines, pass_lines, tree_lines, trial_lines}
-use Rattle.nbody_cli.specs.Lines.{TextLine, Words, LineItem, Word, Number, lines_text}
+use Rattle.nbody_cli.specs.Lines.{TextLine, Words, Word, Numbers, lines_text}
 use Rattle.nbody_cli.specs.Probes.{chosen, left_after, lines_at, probe_lines}
 use Rattle.nbody_options.specs.Choices.{Choices}
 use Rattle.nbody_options.specs.declared.options.Command.{Command}
@@ -17,23 +17,22 @@ use Rattle.scene_file.specs.declared.fault.SceneFault.{SceneFault}
 use Rattle.scene_file.specs.declared.fault.SceneFault.TheVariants as fault
 
 -- the line of a fault by its word and its numbers
-abbrev pub refused : List LineItem → List ℕ
-refused items = lines_text (Words (codes "refused") items ∷ [])
+abbrev pub refused : (word numbers : List ℕ) → List ℕ
+refused word numbers = lines_text (Words (codes "refused") (Word word ∷ Numbers numbers ∷ []) ∷ [])
 
 -- the line of a scene's fault; want of memory has none
 abbrev pub refused_line : SceneFault → List ℕ
-refused_line fault.TooLong = refused (Word (codes "too-long") ∷ [])
-refused_line (fault.BadRecord record_number) = refused (Word (codes "bad-record") ∷ Number record_number ∷ [])
-refused_line (fault.BadNumber record_number field) = refused (Word (codes "bad-number") ∷ Number record_number ∷ Number field ∷ [])
-refused_line (fault.OutOfRange record_number field) = refused (Word (codes "out-of-range") ∷ Number record_number ∷ Number field ∷ [])
-refused_line (fault.TooMany record_number) = refused (Word (codes "too-many") ∷ Number record_number ∷ [])
-refused_line (fault.MassTotal record_number) = refused (Word (codes "mass-total") ∷ Number record_number ∷ [])
-refused_line (fault.Coincident record_number earlier later) = refused (Word (codes "coincident") ∷ Number record_number ∷ Number earlier ∷ Number later ∷ [])
-refused_line (fault.BodyAfterMove record_number) = refused (Word (codes "body-after-move") ∷ Number record_number ∷ [])
-refused_line (fault.UnknownBody record_number) = refused (Word (codes "unknown-body") ∷ Number record_number ∷ [])
-refused_line (fault.MovedTwice record_number body) = refused (Word (codes "moved-twice") ∷ Number record_number ∷ Number body ∷ [])
-refused_line (fault.PassCoincident record_number earlier later) =
-    refused (Word (codes "pass-coincident") ∷ Number record_number ∷ Number earlier ∷ Number later ∷ [])
+refused_line fault.TooLong = refused (codes "too-long") []
+refused_line (fault.BadRecord record_number) = refused (codes "bad-record") (record_number ∷ [])
+refused_line (fault.BadNumber record_number field) = refused (codes "bad-number") (record_number ∷ field ∷ [])
+refused_line (fault.OutOfRange record_number field) = refused (codes "out-of-range") (record_number ∷ field ∷ [])
+refused_line (fault.TooMany record_number) = refused (codes "too-many") (record_number ∷ [])
+refused_line (fault.MassTotal record_number) = refused (codes "mass-total") (record_number ∷ [])
+refused_line (fault.Coincident record_number earlier later) = refused (codes "coincident") (record_number ∷ earlier ∷ later ∷ [])
+refused_line (fault.BodyAfterMove record_number) = refused (codes "body-after-move") (record_number ∷ [])
+refused_line (fault.UnknownBody record_number) = refused (codes "unknown-body") (record_number ∷ [])
+refused_line (fault.MovedTwice record_number body) = refused (codes "moved-twice") (record_number ∷ body ∷ [])
+refused_line (fault.PassCoincident record_number earlier later) = refused (codes "pass-coincident") (record_number ∷ earlier ∷ later ∷ [])
 refused_line fault.OutOfMemory = []
 
 -- the line that tells how the program is called
