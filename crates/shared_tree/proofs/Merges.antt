@@ -26,13 +26,15 @@ use Rattle.tree_passes.specs.Passes.{cell_note}
 use Rattle.tree_passes.specs.Turns.{Descends, IsStill}
 use Rattle.tree_passes.proofs.Laws.{in_times, still_refl, times-append}
 use Rattle.shared_tree.specs.declared.publisher.Spot.{Spot}
+use Rattle.shared_tree.specs.declared.subtrees.Copied.{Copied}
 use Rattle.shared_tree.specs.Publishing.{IsSpot}
 use Rattle.shared_tree.specs.Copying.{bodies_under, IsPartAt}
-use Rattle.shared_tree.specs.Merging.{AreBlocks, IsAlone, IsMerged, IsPartIn, IsPartMerged, IsPutWhole, most_steps}
+use Rattle.shared_tree.specs.Merging.{AreBlocks, IsAlone, IsMerged, IsPartIn, IsPartMerged, IsPutCopy, most_steps}
 use Rattle.shared_tree.proofs.MergeBlocks.{AreBlocksUpTo, blocks_end, blocks_next, blocks_on, blocks_one, blocks_start, blocks_zero, octant_key}
 use Rattle.shared_tree.proofs.MergeParts.{before_next, bodies_all, bodies_before, cells_all, cells_more, kid_among, kid_length}
 use Rattle.shared_tree.proofs.PartTrees.{child_part, no_bodies, one_body}
 use Rattle.shared_tree.proofs.PartCopies.{times_one}
+use Rattle.shared_tree.proofs.PartPuts.{merged_from}
 
 times_parts : (x n : ℕ) (l : List ℕ) → times x (take n l) + times x (drop n l) ≡ times x l
 times_parts x zero l = omega arith
@@ -258,21 +260,34 @@ nothing_merged v sites s spare key level at =
     }
 
 -- a part that one publication put in
-pub whole_merged : (v w : View) (words : ℕ) (sites : List Site) (s : PartSpot) (spare : List ℕ) (key used n : ℕ) (spot : Spot)
-    → IsPartIn v words sites s key spot → IsIn (bodies_under s) n → (used ≤ length spare) × IsPutWhole v w (bodies_under s) (take used spare)
-    → IsPartMerged v w sites s spare key spot.level used 1
-whole_merged v w words sites s spare key used n spot at i put =
+pub whole_merged : (v w : View) (words : ℕ) (sites : List Site) (s : PartSpot) (spare : List ℕ) (key n : ℕ) (spot : Spot) (copied : Copied)
+    → IsPartIn v words sites s key spot → IsIn (bodies_under s) n → IsPutCopy v w (bodies_under s) spare copied
+    → IsPartMerged v w sites s spare key spot.level copied.used 1
+whole_merged v w words sites s spare key n spot copied at i put =
     let some : 1 ≤ length (bodies_under s) = some_length (bodies_under s) n i in
-    let taken : length (take used spare) ≡ used = length-take-le used spare put.0 in
+    let taken : length (take copied.used spare) ≡ copied.used = length-take-le copied.used spare put.within in
     record {
-      within = put.0;
-      few = let f = put.1.few in omega arith;
-      merged = put.1.merged;
-      count = put.1.changes;
+      within = put.within;
+      few = let f = put.whole.few in omega arith;
+      merged = put.whole.merged;
+      count = put.whole.changes;
       most = omega arith;
       some = λ l. omega arith;
       blocks = blocks_one v sites key spot.level (bodies_under s) n at.rule at.part.low at.part.bodies_in at.part.under i;
     }
+
+-- a part that is merged after the pass only loaded
+pub still_merged : (v w u : View) (sites : List Site) (s : PartSpot) (spare : List ℕ) (key level used changes : ℕ) → IsStill v w
+    → IsPartMerged w u sites s spare key level used changes → IsPartMerged v u sites s spare key level used changes
+still_merged v w u sites s spare key level used changes still m = record {
+  within = m.within;
+  few = m.few;
+  merged = merged_from v w u (bodies_under s) (take used spare) still m.merged;
+  count = let a = m.count in let b = still.changes in omega arith;
+  most = m.most;
+  some = m.some;
+  blocks = blocks_on v w sites key level (bodies_under s) changes still.opening m.blocks;
+}
 
 -- a part of one body is one a level deeper
 pub deeper_in : (v w : View) (words : ℕ) (sites : List Site) (s : PartSpot) (n key d k : ℕ) (spot next : Spot) → IsPartIn v words sites s key spot

@@ -1,7 +1,9 @@
 -- Copies of subtrees while they are made.
 use Rattle.std.proofs.Common.{ℕ, ◌+◌, ◌-◌, ◌*◌, ◌^◌, ◌<◌, ◌≤◌, ◌≡◌, ◌≢◌, ◌⊎◌, ◌↔◌, zero, suc, refl, sym, ◌∙◌, ap, subst, inl, inr, arith, eqb, cond, Bool}
-use Rattle.std.proofs.Common.{List, [], ◌∷◌, length, take, drop, set, get_or, get_or-set_same, get_or-set_other, Option, None, Some}
+use Rattle.std.proofs.Common.{List, [], ◌∷◌, length, take, drop, set, length-set, get_or, get_or-set_same, get_or-set_other, Option, None, Some}
 use Rattle.std.proofs.Common.{length-drop, take-append-drop}
+use mathlib.Core.Logic.{dite}
+use native.Mathlib.Decide.{ℕ_discrete}
 use Rattle.std.proofs.Math.Nat.{add-mul, mul-add, mul-le-mul_left, one-mul}
 use Rattle.std.proofs.Math.Seq.{take-add}
 use Rattle.std.proofs.lemmas.Bool.{cases_Bool, cases_lt, eqb-true}
@@ -29,7 +31,7 @@ use Rattle.tree_passes.specs.declared.view.TheConstants.{KEY_PART, ROW_WORDS}
 use Rattle.tree_passes.specs.declared.view.View.{View}
 use Rattle.tree_passes.specs.Counting.{times}
 use Rattle.tree_passes.specs.Making.{HasCellWords, HasWritten, IsReady}
-use Rattle.tree_passes.proofs.Laws.{in_times, times-append, times_take, wrote_more, wrote_word}
+use Rattle.tree_passes.proofs.Laws.{WithRow, cell_row, in_times, times-append, times_take, wrote_more, wrote_word}
 use Rattle.shared_tree.specs.Copying.{bodies_under, other_in, other_word, with_other, IsOtherAt, IsPartAt}
 use Rattle.shared_tree.proofs.PartTrees.{child_part, part_split}
 
@@ -324,6 +326,118 @@ copied_all sites v w spare s other key level k used top end i =
     amid_same (site_at sites) (at_of w.memory) (cell_word top) key (IsIn (take used spare)) (IsIn (take used spare)) (IsBefore sites s other level k)
     (IsIn (with_other other (bodies_under s))) (IsIn (with_other other (bodies_under s))) (IsIn (with_other other (bodies_under s)))
     (λ c. ((λ p. p), (λ p. p))) (λ n. ((λ b. b.0), (λ m. (m, let o = octant-small (site_at sites n) level in omega arith)))) (λ n m. m) i.stands
+
+-- ---- a cell that is written once all its children are copied
+
+-- Two views in which a cell has the same words agree at a place, where the views do in which it was written.
+rows_agree : (v w a b : View) (top key i : ℕ) (children : List ℕ) → HasWritten v a (top ∷ []) → HasCellWords a.memory top children key 8
+    → HasWritten w b (top ∷ []) → HasCellWords b.memory top children key 8 → at_of w.memory i ≡ at_of v.memory i → at_of b.memory i ≡ at_of a.memory i
+rows_agree v w a b top key i children wa ra wb rb same = elim (cases_lt i (child_place top 0)) [
+  | inl before ↦ other (λ j l e. omega arith)
+  | inr from ↦ elim (cases_lt i (child_place top KEY_PART)) [
+    | inl child ↦
+        let at : i ≡ child_place top (i - child_place top 0) = omega arith in
+        let small : i - child_place top 0 < 8 = omega arith in
+        ap (at_of b.memory) at ∙ rb.children_are _ small ∙ sym (ra.children_are _ small) ∙ ap (at_of a.memory) (sym at)
+    | inr on ↦ dite (ℕ_discrete i (key_place top))
+        (λ (e : i ≡ key_place top). ap (at_of b.memory) e ∙ rb.key_is ∙ sym ra.key_is ∙ ap (at_of a.memory) (sym e))
+        (λ (n : i ≢ key_place top). other (λ j l e. n (omega arith)))
+  ]
+]
+  where
+    other : ((j : ℕ) → j < ROW_WORDS → i ≢ child_place top j) → at_of b.memory i ≡ at_of a.memory i
+    other none =
+        let apart : (c j : ℕ) → IsIn (top ∷ []) c → j < ROW_WORDS → i ≢ child_place c j = λ c j p l e. elim p [
+          | inl is ↦ none j l (let one : c ≡ top = is in omega arith)
+          | inr f ↦ absurd f
+        ] in
+        wb.others i apart ∙ same ∙ sym (wa.others i apart)
+
+-- The children before child k are copied, and their words are kept for the cell: were it written with them, the words would stand for their bodies.
+pub record IsGathered (sites : List Site) (v w : View) (spare : List ℕ) (s : Spot) (other : Option ℕ) (key level k used top : ℕ) (children : List ℕ)
+    : Type 0 where
+  pub eight_words : length children ≡ 8
+  pub wrote : HasWritten v w (take used spare)
+  pub row : WithRow w top children key 8
+  pub copied : IsCopiedUpTo sites v row.after spare s other key level k used top
+
+-- at the beginning they are empty
+pub gathered_none : (sites : List Site) (v : View) (spare : List ℕ) (s cell : Spot) (other : Option ℕ) (key level top : ℕ)
+    → IsPartAt sites s key level → IsCellAt s cell → 1 ≤ length spare → top ≡ get_or spare 0 0 → lock_place top < length v.memory
+    → IsGathered sites v v spare s other key level 0 1 top eight
+gathered_none sites v spare s cell other key level top part at long first inside =
+    let row = cell_row v top eight key inside in
+    record {
+      eight_words = refl;
+      wrote = record { view = refl; long = refl; others = λ i n. refl };
+      row = row;
+      copied = copied_none sites v row.after spare s cell other key level top part at long first row.wrote row.words;
+    }
+
+-- one child more is copied
+pub gathered_more : (sites : List Site) (v w u : View) (spare : List ℕ) (s : Spot) (other : Option ℕ) (M : List ℕ) (key level k used more top word : ℕ)
+    (children : List ℕ) → M ≡ in_octant (site_at sites) level k (with_other other (bodies_under s))
+    → k < 8 → 1 ≤ length spare → top ≡ get_or spare 0 0 → lock_place top < length u.memory → ((c : ℕ) → times c spare ≤ 1)
+    → more ≤ (LEVELS - (level + 1)) * octant_length (site_at sites) level (bodies_under s) k
+    → IsGathered sites v w spare s other key level k used top children → HasWritten w u (take more (drop used spare))
+    → StandsFor (site_at sites) (at_of u.memory) word (8 * key + k) (IsIn (take more (drop used spare))) (IsIn M)
+    → IsGathered sites v u spare s other key level (k + 1) (used + more) top (set children k word)
+gathered_more sites v w u spare s other M key level k used more top word children is small long first inside once few i wrote stands =
+    let g = i.copied in
+    let a : View = i.row.after in
+    let row = cell_row u top children key inside in
+    let b : View = row.after in
+    let x : View = record b { memory = set b.memory (child_place top k) word } in
+    let top_in : IsIn (take used spare) top = first_in spare top used long g.some first in
+    let Q : ℕ → Type 0 = IsIn (take more (drop used spare)) in
+    let not_top : (c : ℕ) → Q c → IsIn (top ∷ []) c → ⊥ =
+    λ c q t. elim t [ inl e ↦ parts_apart used more spare c once (subst (IsIn (take used spare)) (sym e) top_in) q | inr f ↦ f ] in
+    let inside_row : lock_place top < length b.memory = (let l = row.wrote.long in omega arith) in
+    let shadow : HasWritten a b (take more (drop used spare)) = record {
+      view = row.wrote.view ∙ ap (λ (z : View). record z { memory = b.memory }) wrote.view
+          ∙ ap (λ (z : View). record z { memory = b.memory }) (sym i.row.wrote.view);
+      long = row.wrote.long ∙ wrote.long ∙ sym i.row.wrote.long;
+      others = λ j n. rows_agree w u a b top key j children i.row.wrote i.row.words row.wrote row.words (wrote.others j n);
+    } in
+    let below : StandsFor (site_at sites) (at_of b.memory) word (8 * key + k) Q (IsIn M) =
+    stands_moved (site_at sites) (at_of u.memory) (at_of b.memory) word (8 * key + k) Q (IsIn M)
+    (λ c q. stays_key u b (top ∷ []) c row.wrote (not_top c q))
+    (λ c j q l. stays_word u b (top ∷ []) c j row.wrote (not_top c q) (omega arith)) stands in
+    record {
+      eight_words = length-set children k word ∙ i.eight_words;
+      wrote = wrote_more v w u (take used spare) (take more (drop used spare)) (take (used + more) spare) i.wrote wrote
+          (λ c p. (first_then_rest used more spare c).0 (inl p)) (λ c q. (first_then_rest used more spare c).0 (inr q));
+      row = record {
+        after = x;
+        wrote = wrote_more u b x (top ∷ []) (top ∷ []) (top ∷ []) row.wrote (wrote_word b x top k word (omega arith) refl) (λ c p. p) (λ c p. p);
+        words = record {
+          key_is = get_or-set_other b.memory (child_place top k) (key_place top) word 0 (λ e. omega arith) ∙ row.words.key_is;
+          children_are = λ j l. dite (ℕ_discrete j k)
+              (λ (e : j ≡ k). ap (λ (z : ℕ). at_of x.memory (child_place top z)) e
+              ∙ get_or-set_same b.memory (child_place top k) word 0 (omega arith) ∙ sym (get_or-set_same children k word 0 (omega (arith, i.eight_words)))
+              ∙ ap (at_of (set children k word)) (sym e))
+              (λ (n : j ≢ k). get_or-set_other b.memory (child_place top k) (child_place top j) word 0 (λ e. n (omega arith))
+              ∙ row.words.children_are j l ∙ sym (get_or-set_other children k j word 0 n));
+        };
+      };
+      copied = copied_more sites v a b x spare s other M key level k used more top word is small long first once few g
+          (record { wrote = shadow; stands = below; put = refl; inside = inside_row });
+    }
+
+-- and when the cell is written with the words of all children it stands for all bodies
+pub gathered_all : (sites : List Site) (v w x : View) (spare : List ℕ) (s : Spot) (other : Option ℕ) (key level k used top : ℕ) (children : List ℕ) → 8 ≤ k
+    → 1 ≤ length spare → top ≡ get_or spare 0 0 → IsGathered sites v w spare s other key level k used top children
+    → HasWritten w x (top ∷ []) → HasCellWords x.memory top children key 8
+    → HasWritten v x (take used spare)
+    × StandsFor (site_at sites) (at_of x.memory) (cell_word top) key (IsIn (take used spare)) (IsIn (with_other other (bodies_under s)))
+gathered_all sites v w x spare s other key level k used top children end long first i wrote words =
+    let a : View = i.row.after in
+    let same : (j : ℕ) → at_of x.memory j ≡ at_of a.memory j = λ j. rows_agree w w a x top key j children i.row.wrote i.row.words wrote words refl in (
+      wrote_more v w x (take used spare) (top ∷ []) (take used spare) i.wrote wrote (λ c p. p)
+          (λ c t. elim t [ inl e ↦ subst (IsIn (take used spare)) (sym e) (first_in spare top used long i.copied.some first) | inr f ↦ absurd f ]),
+      stands_moved (site_at sites) (at_of a.memory) (at_of x.memory) (cell_word top) key (IsIn (take used spare)) (IsIn (with_other other (bodies_under s)))
+          (λ c p. same (key_place c)) (λ c j p l. same (child_place c j)) (copied_all sites v a spare s other key level k used top end i.copied),
+    )
 
 -- ---- how many cells there are
 

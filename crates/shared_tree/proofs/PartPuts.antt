@@ -1,5 +1,6 @@
 -- Facts between the steps of a visit of a published word with a subtree of a private octree.
-use Rattle.std.proofs.Common.{◌≡◌, ℕ, ◌+◌, ◌*◌, ◌-◌, ◌^◌, ◌<◌, ◌≤◌, List, [], ◌∷◌, length, take, Option, None, Some, sym, refl, ap, ◌∙◌, subst, inl, inr, arith}
+use Rattle.std.proofs.Common.{◌≡◌, ◌≢◌, ℕ, ◌+◌, ◌*◌, ◌-◌, ◌^◌, ◌<◌, ◌≤◌, List, [], ◌∷◌, length, take, Option, None, Some}
+use Rattle.std.proofs.Common.{sym, refl, ap, ◌∙◌, subst, inl, inr, arith}
 use Rattle.std.proofs.Math.Nat.{add-mul}
 use Rattle.std.proofs.lemmas.List.{length-take-le}
 use Rattle.octant_code.specs.declared.limits.TheConstants.{LEVELS}
@@ -17,16 +18,17 @@ use Rattle.tree_passes.specs.Counting.{times}
 use Rattle.tree_passes.specs.Looks.{FoundBody, Tells}
 use Rattle.tree_passes.specs.Passes.{after_publication}
 use Rattle.tree_passes.specs.Plays.{IsPutOrNamed, IsReadyFor}
-use Rattle.tree_passes.specs.Turns.{IsStill}
-use Rattle.tree_passes.proofs.Laws.{descends_from, in_times, place_still, times-append, times-without_all}
+use Rattle.tree_passes.specs.Turns.{Descends, IsFound, IsStill, IsThere}
+use Rattle.tree_passes.proofs.Laws.{descends_from, in_times, place_still, still_on, there_still, times-append, times-without_all}
 use Rattle.shared_tree.specs.declared.publisher.Spot.{Spot}
-use Rattle.shared_tree.specs.declared.descent.Turn.{Turn}
-use Rattle.shared_tree.specs.declared.descent.Turn.TheVariants as turn
+use Rattle.shared_tree.specs.declared.subtrees.Copied.{Copied}
+use Rattle.shared_tree.specs.declared.merge.PartTurn.{PartTurn}
+use Rattle.shared_tree.specs.declared.merge.PartTurn.TheVariants as turn
 use Rattle.shared_tree.specs.Copying.{bodies_under, other_word, with_other, IsOtherAt}
-use Rattle.shared_tree.specs.Merging.{IsMerged, IsPartIn, IsPutWhole, LeadsPart}
-use Rattle.shared_tree.specs.Publishing.{HasFoundOther, HasPublished}
+use Rattle.shared_tree.specs.Merging.{HasMissed, IsMerged, IsPartIn, IsPutCopy, IsPutWhole, LeadsPart}
+use Rattle.shared_tree.specs.Publishing.{HasPublished}
 use Rattle.shared_tree.proofs.PartCopies.{some_same}
-use Rattle.shared_tree.proofs.Puts.{still_has, word_small}
+use Rattle.shared_tree.proofs.Puts.{other_below, other_cell, other_found, other_still, still_has, word_small}
 
 -- a member of a list that is not empty
 pub some_of : (l : List ℕ) → 1 ≤ length l → (n : ℕ) × IsIn l n
@@ -57,11 +59,6 @@ pub part_small : (v u : View) (words : ℕ) (sites : List Site) (part : PartSpot
     → IsPartIn v words sites part key s → value < 2 ^ 33
 part_small v u words sites part key s value h t at =
     word_small u key value t (subst ArePoints (sym (h.points ∙ at.points)) at.rule) (let a = h.long in let b = at.long in let f = at.few in omega arith)
-
--- what was found there in the place of another word is small
-pub found_small : (v w : View) (words : ℕ) (sites : List Site) (part : PartSpot) (key : ℕ) (s : Spot) (i value : ℕ) → HasFoundOther v i key value w
-    → IsPartIn v words sites part key s → value < 2 ^ 33
-found_small v w words sites part key s i value h at = part_small v h.before words sites part key s value (still_has v h.before h.learnt) h.learns.tells at
 
 -- a body that was found there is none of the part, and lies in the cube
 module _ (v : View) (words : ℕ) (sites : List Site) (part : PartSpot) (key : ℕ) (s : Spot) (x : ℕ) (at : IsPartIn v words sites part key s)
@@ -171,15 +168,40 @@ put_whole v w bodies cells among entrusted few h =
       changes = ap (λ (z : View). z.changes) h.view ∙ ap (λ (c : ℕ). c + 1) s.changes;
     }
 
+-- also where the pass loaded and wrote before it
+pub put_from : (u v w : View) (bodies spare : List ℕ) (copied : Copied) → IsStill u v → IsPutCopy v w bodies spare copied → IsPutCopy u w bodies spare copied
+put_from u v w bodies spare copied s p = record {
+  within = p.within;
+  whole = record {
+    merged = merged_from u v w bodies _ s p.whole.merged;
+    few = p.whole.few;
+    changes = p.whole.changes ∙ ap (λ (c : ℕ). c + 1) s.changes;
+  };
+  count = p.count;
+}
+
 -- what a visit leads to, where the pass only loaded and wrote before it
-pub leads_part : (u v w : View) (bodies spare : List ℕ) (key : ℕ) (t : Turn) → IsStill u v → LeadsPart v w bodies spare key t
+pub leads_part : (u v w : View) (bodies spare : List ℕ) (key : ℕ) (t : PartTurn) → IsStill u v → LeadsPart v w bodies spare key t
     → LeadsPart u w bodies spare key t
-leads_part u v w bodies spare key (turn.Done used) s p = (
-  p.0,
-  record {
-    merged = merged_from u v w bodies _ s p.1.merged;
-    few = p.1.few;
-    changes = p.1.changes ∙ ap (λ (c : ℕ). c + 1) s.changes;
-  },
-)
+leads_part u v w bodies spare key (turn.Done copied) s p = put_from u v w bodies spare copied s p
 leads_part u v w bodies spare key (turn.Below d) s p = descends_from u v w key d s p
+
+-- another word that was found in the place of that which a copy was to replace
+module _ (v w : View) (word key old found : ℕ) (h : HasMissed v w word key old found) where
+  pub missed_still : IsStill v w
+  missed_still = still_on v h.copied w h.still (other_still h.copied w word key found h.other)
+
+  pub missed_found : found ≢ 0 → IsFound w word key found
+  missed_found full = other_found h.copied w word key found h.other full
+
+  -- where the pass knew the word to have named a body it names a cell
+  pub missed_cell : (x : ℕ) → IsThere v word key x → found ≢ body_word x → (d : ℕ) × (found ≡ cell_word d)
+  missed_cell x t apart = other_cell h.copied w word key found h.other x (there_still v h.copied word key x h.still t) apart
+
+  pub missed_below : (d : ℕ) → found ≡ cell_word d → Descends v w key d
+  missed_below d e = descends_from v h.copied w key d h.still (other_below h.copied w word key found h.other d e)
+
+  pub missed_small : (words : ℕ) (sites : List Site) (part : PartSpot) (s : Spot) → IsPartIn v words sites part key s → found < 2 ^ 33
+  missed_small words sites part s at =
+      part_small v h.other.before words sites part key s found
+      (still_on v h.copied h.other.before h.still (still_has h.copied h.other.before h.other.learnt)) h.other.learns.tells at

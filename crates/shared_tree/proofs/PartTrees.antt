@@ -147,3 +147,7 @@ no_bodies s at = ap order at.tree ∙ order-empty
 -- a part of one body has that one
 pub one_body : (s : Spot) (n : ℕ) → IsBodyAt s n → bodies_under s ≡ n ∷ []
 one_body s n at = ap order at.tree ∙ order-body n
+
+-- a cell that is the top of a part is the top of itself
+pub cell_itself : (s cell : Spot) → IsCellAt s cell → IsCellAt cell cell
+cell_itself s cell at = subst (λ (z : Spot). IsCellAt z cell) (sym at.same) at

@@ -1,5 +1,5 @@
 -- What a merge of a private octree goes by, and what it leaves.
-use Rattle.std.specs.Prelude.{ℕ, ◌≡◌, ◌+◌, ◌*◌, ◌-◌, ◌<◌, ◌≤◌, ◌⊎◌, List, [], length, take, filter, nat_eq, not}
+use Rattle.std.specs.Prelude.{ℕ, ◌≡◌, ◌≢◌, ◌+◌, ◌*◌, ◌-◌, ◌<◌, ◌≤◌, ◌⊎◌, List, [], length, take, filter, nat_eq, not, Option}
 use Rattle.std.specs.List.{list_any}
 use Rattle.octant_code.specs.declared.limits.TheConstants.{LEVELS}
 use Rattle.octant_code.specs.Space.{Site, key_of}
@@ -16,13 +16,16 @@ use Rattle.tree_passes.specs.declared.view.View.{View}
 use Rattle.tree_passes.specs.Counting.{times, Has}
 use Rattle.tree_passes.specs.Opening.{Opening}
 use Rattle.tree_passes.specs.Passes.{KnowsPlace}
-use Rattle.tree_passes.specs.Turns.{Descends}
+use Rattle.tree_passes.specs.Turns.{Descends, IsStill}
 use Rattle.shared_tree.specs.declared.publisher.Spot.{Spot}
-use Rattle.shared_tree.specs.declared.descent.Turn.{Turn}
-use Rattle.shared_tree.specs.declared.descent.Turn.TheVariants as turn
-use Rattle.shared_tree.specs.Copying.{bodies_under, IsPartAt}
-use Rattle.shared_tree.specs.Publishing.{IsSpot}
-use Rattle.shared_tree.specs.Seen.{PassState, entrusted}
+use Rattle.shared_tree.specs.declared.subtrees.Copied.{Copied}
+use Rattle.shared_tree.specs.declared.merge.PartTurn.{PartTurn}
+use Rattle.shared_tree.specs.declared.merge.PartTurn.TheVariants as turn
+use Rattle.shared_tree.specs.declared.merge.Tried.{Tried}
+use Rattle.shared_tree.specs.declared.merge.Tried.TheVariants as tried
+use Rattle.shared_tree.specs.Copying.{bodies_under, other_word, IsPartAt}
+use Rattle.shared_tree.specs.Publishing.{HasFoundOther, IsSpot}
+use Rattle.shared_tree.specs.Seen.{PassState, entrusted, risen}
 
 -- the bodies of a list that another list doesn't have
 abbrev pub others_among : List ℕ → List ℕ → List ℕ
@@ -79,9 +82,27 @@ pub record IsPutWhole (v w : View) (bodies cells : List ℕ) : Type 0 where
   pub few : length cells ≤ CELLS_OF_ONE * length bodies
   pub changes : w.changes ≡ v.changes + 1
 
--- What a visit of a word with a subtree leads to: its bodies are put in, with so many of the cells, or the way goes on below a cell that the word names.
-abbrev pub LeadsPart : View → View → List ℕ → List ℕ → ℕ → Turn → Type 0
-LeadsPart v w bodies spare key (turn.Done used) = (used ≤ length spare) × IsPutWhole v w bodies (take used spare)
+-- A copy of these bodies was published with its cells, the first of the spare ones, and tells how many bodies they are.
+pub record IsPutCopy (v w : View) (bodies spare : List ℕ) (copied : Copied) : Type 0 where
+  pub within : copied.used ≤ length spare
+  pub whole : IsPutWhole v w bodies (take copied.used spare)
+  pub count : copied.bodies ≡ risen 0 (length bodies)
+
+-- Another word was found than the one that a copy was to take the place of. The pass only wrote the copy into its cells before.
+pub record HasMissed (v w : View) (word key old found : ℕ) : Type 0 where
+  pub copied : View
+  pub still : IsStill v copied
+  pub apart : found ≢ old
+  pub other : HasFoundOther copied word key found w
+
+-- What comes of a copy: it is published, or another word was found.
+abbrev pub TriesPart : View → View → List ℕ → List ℕ → ℕ → ℕ → Option ℕ → Tried → Type 0
+TriesPart v w bodies spare word key other (tried.Put copied) = IsPutCopy v w bodies spare copied
+TriesPart v w bodies spare word key other (tried.Missed found) = HasMissed v w word key (other_word other) found
+
+-- What a visit of a word with a subtree leads to: its bodies are put in by a copy, or the way goes on below a cell that the word names.
+abbrev pub LeadsPart : View → View → List ℕ → List ℕ → ℕ → PartTurn → Type 0
+LeadsPart v w bodies spare key (turn.Done copied) = IsPutCopy v w bodies spare copied
 LeadsPart v w bodies spare key (turn.Below d) = Descends v w key d
 
 -- how many steps a subtree takes at most from a level on: three for each of its cells, and for each of the levels that are left for each of its bodies

@@ -1,67 +1,83 @@
 //! The walk that merges a private octree into a shared tree.
 
-ghost use Rattle.std.specs.Prelude.{◌≡◌, ℕ, [], ◌+◌, ◌*◌, ◌<◌, ◌≤◌, length, take};
+ghost use Rattle.std.specs.Prelude.{◌≡◌, ℕ, [], ◌+◌, ◌*◌, ◌<◌, ◌≤◌, Some, length, take};
 ghost use Rattle.octant_code.specs.Points.{site_at};
 ghost use Rattle.bh_model.specs.Trees.{cell_count, order};
 ghost use Rattle.tree_rule.specs.Words.{child_place, lock_place, HasBody};
 ghost use Rattle.tree_rule.specs.declared.words.TheConstants.{CELLS_OF_ONE, MOST_CELLS, POOL_PLACE};
 ghost use Rattle.octree.specs.Stored.{tree_of, word_count, IsCanonical};
+ghost use Rattle.octree.specs.Subtree.{IsBodyAt, IsCellAt};
 ghost use Rattle.tree_passes.specs.Counting.{times};
 ghost use Rattle.tree_passes.specs.Making.{IsReady};
-ghost use Rattle.tree_passes.specs.Turns.{IsThere};
-ghost use Rattle.shared_tree.specs.Copying.{bodies_under};
+ghost use Rattle.tree_passes.specs.Turns.{IsBelow, IsThere};
+ghost use Rattle.shared_tree.specs.Copying.{bodies_under, IsOtherAt};
 ghost use Rattle.shared_tree.specs.Seen.{risen};
-ghost use Rattle.shared_tree.specs.Merging.{most_steps, AreBlocks, IsAlone, IsMerged, IsPartIn, IsPartMerged, LeadsPart};
+ghost use Rattle.shared_tree.specs.Merging.{most_steps, AreBlocks, IsAlone, IsMerged, IsPartIn, IsPartMerged, LeadsPart, TriesPart};
 
-use crate::descent::Turn;
 use crate::publisher::{Batched, Publisher, Spot, publish};
-use crate::subtrees::copy_part;
+use crate::subtrees::{Copied, copy_part, word_of_other};
 use octant_code::{LEVELS, Points, Steps, octant};
-use octree::{Octree, Subtree, Top};
+use octree::{CellAt, Octree, Subtree, Top};
 use std::sync::ledger::Ledger;
 use tree_passes::{Cube, Pass, Words, look};
-use tree_rule::{Named, ROOT_LOCK, named_by, place_of_child, place_of_lock, word_of_body};
+use tree_rule::{Named, ROOT_LOCK, named_by, place_of_child, place_of_lock};
 
-/// What a merge took and did: how many of the spare cells it took, from the front, and how often it
-/// published.
+/// What a merge took and did: how many of the spare cells it took, from the front, how often it
+/// published, and how many bodies it put in, up to 2^64 - 1.
 #[derive(Clone, Copy, Drop)]
 pub struct Merged {
     pub used: usize,
     pub changes: u64,
+    pub bodies: u64,
 }
 
-/// Publishes a copy of a subtree over body `x`, which the word named when it was looked at. The copy
-/// has that body, too. Where the word names a cell by now the spare cells stay with the pass.
-fn put_part_over<P: Publisher, L: Ledger>(
+/// What came of a copy of a subtree: it is published, or another word was found.
+#[derive(Clone, Copy, Drop)]
+pub enum Tried {
+    Put(Copied),
+    Missed(u64),
+}
+
+/// What a visit of a published word with a subtree leads to: a copy of it is published, or the way goes
+/// on below a cell.
+#[derive(Clone, Copy, Drop)]
+pub enum PartTurn {
+    Done(Copied),
+    Below(u32),
+}
+
+/// Publishes a copy of a subtree where the word was empty when it was looked at, or named the other
+/// body, which the copy has too then. Where the word is another by now the spare cells stay with the pass.
+fn publish_copy<P: Publisher, L: Ledger>(
     publisher: &P,
     table: &Words,
     pass: &mut Pass,
     spare: &[u32],
     points: &Points,
     part: &Subtree,
-    x: u32,
+    other: Option<u32>,
     key: u64,
     spot: Spot,
     steps: &mut Steps<L>,
-) -> Turn
+) -> Tried
     requires writing { table.now.key.writing ≡ P.writing }
     requires place { pass.old.table_id ≡ table.now.table_id }
     requires at { IsPartIn pass.old.me.0 table.now.table_id.words points.now part.now key spot }
-    requires there { IsThere pass.old.me.0 spot.word key x }
+    requires other { (x : ℕ) → other ≡ Some x → IsOtherAt points.now part.now key spot.level x }
     requires some { 1 ≤ length (bodies_under part.now) }
     requires ready { IsReady pass.old.me.0 table.now.table_id.words spare.now }
     requires stock { CELLS_OF_ONE * length (bodies_under part.now) ≤ length spare.now }
     ensures pass { (pass.new.table_id ≡ pass.old.table_id) × (pass.new.me.1 ≡ pass.old.me.1) }
     ensures no_lock { (pass.new.me.0.locks ≡ []) × (pass.new.me.0.under ≡ []) }
-    ensures turn { LeadsPart pass.old.me.0 pass.new.me.0 (bodies_under part.now) spare.now key result }
+    ensures tried { TriesPart pass.old.me.0 pass.new.me.0 (bodies_under part.now) spare.now spot.word key other result }
     ensures steps { steps.new ≡ steps.old + 1 }
 {
     let cube = Cube {
         key,
         level: spot.level,
     };
-    let copied = copy_part(table, pass, spare, points, part, Some(x), cube);
-    let old = word_of_body(x);
+    let copied = copy_part(table, pass, spare, points, part, other, cube);
+    let old = word_of_other(other);
     let cells = &spare[..copied.used];
     let found = publish(
         publisher,
@@ -75,11 +91,47 @@ fn put_part_over<P: Publisher, L: Ledger>(
         steps,
     );
     if found == old {
-        return Turn::Done(copied.used);
+        Tried::Put(copied)
+    } else {
+        Tried::Missed(found)
     }
-    match named_by(found) {
-        Named::Cell(cell) => Turn::Below(cell),
-        _ => unreachable!(),
+}
+
+/// Publishes a copy of a subtree over body `x`, which the word named when it was looked at. The copy
+/// has that body, too.
+fn put_part_over<P: Publisher, L: Ledger>(
+    publisher: &P,
+    table: &Words,
+    pass: &mut Pass,
+    spare: &[u32],
+    points: &Points,
+    part: &Subtree,
+    x: u32,
+    key: u64,
+    spot: Spot,
+    steps: &mut Steps<L>,
+) -> PartTurn
+    requires writing { table.now.key.writing ≡ P.writing }
+    requires place { pass.old.table_id ≡ table.now.table_id }
+    requires at { IsPartIn pass.old.me.0 table.now.table_id.words points.now part.now key spot }
+    requires there { IsThere pass.old.me.0 spot.word key x }
+    requires some { 1 ≤ length (bodies_under part.now) }
+    requires ready { IsReady pass.old.me.0 table.now.table_id.words spare.now }
+    requires stock { CELLS_OF_ONE * length (bodies_under part.now) ≤ length spare.now }
+    ensures pass { (pass.new.table_id ≡ pass.old.table_id) × (pass.new.me.1 ≡ pass.old.me.1) }
+    ensures no_lock { (pass.new.me.0.locks ≡ []) × (pass.new.me.0.under ≡ []) }
+    ensures turn { LeadsPart pass.old.me.0 pass.new.me.0 (bodies_under part.now) spare.now key result }
+    ensures steps { steps.new ≡ steps.old + 1 }
+{
+    let other = Some(x);
+    match publish_copy(
+        publisher, table, pass, spare, points, part, other, key, spot, steps,
+    ) {
+        Tried::Put(copied) => PartTurn::Done(copied),
+        Tried::Missed(found) => match named_by(found) {
+            Named::Cell(cell) => PartTurn::Below(cell),
+            _ => unreachable!(),
+        },
     }
 }
 
@@ -94,7 +146,7 @@ fn put_part_alone<P: Publisher, L: Ledger>(
     key: u64,
     spot: Spot,
     steps: &mut Steps<L>,
-) -> Turn
+) -> PartTurn
     requires writing { table.now.key.writing ≡ P.writing }
     requires place { pass.old.table_id ≡ table.now.table_id }
     requires at { IsPartIn pass.old.me.0 table.now.table_id.words points.now part.now key spot }
@@ -106,29 +158,17 @@ fn put_part_alone<P: Publisher, L: Ledger>(
     ensures turn { LeadsPart pass.old.me.0 pass.new.me.0 (bodies_under part.now) spare.now key result }
     ensures steps { steps.new ≤ steps.old + 2 }
 {
-    let cube = Cube {
-        key,
-        level: spot.level,
-    };
-    let copied = copy_part(table, pass, spare, points, part, None, cube);
-    let cells = &spare[..copied.used];
-    let found = publish(
-        publisher,
-        table,
-        pass,
-        spot,
-        0,
-        copied.word,
-        cells,
-        Batched::Below(part),
-        steps,
-    );
-    match named_by(found) {
-        Named::Nothing => Turn::Done(copied.used),
-        Named::Body(x) => put_part_over(
-            publisher, table, pass, spare, points, part, x, key, spot, steps,
-        ),
-        Named::Cell(cell) => Turn::Below(cell),
+    match publish_copy(
+        publisher, table, pass, spare, points, part, None, key, spot, steps,
+    ) {
+        Tried::Put(copied) => PartTurn::Done(copied),
+        Tried::Missed(found) => match named_by(found) {
+            Named::Nothing => unreachable!(),
+            Named::Body(x) => put_part_over(
+                publisher, table, pass, spare, points, part, x, key, spot, steps,
+            ),
+            Named::Cell(cell) => PartTurn::Below(cell),
+        },
     }
 }
 
@@ -144,7 +184,7 @@ fn visit_part<P: Publisher, L: Ledger>(
     key: u64,
     spot: Spot,
     steps: &mut Steps<L>,
-) -> Turn
+) -> PartTurn
     requires writing { table.now.key.writing ≡ P.writing }
     requires place { pass.old.table_id ≡ table.now.table_id }
     requires at { IsPartIn pass.old.me.0 table.now.table_id.words points.now part.now key spot }
@@ -165,7 +205,7 @@ fn visit_part<P: Publisher, L: Ledger>(
         Named::Body(x) => put_part_over(
             publisher, table, pass, spare, points, part, x, key, spot, steps,
         ),
-        Named::Cell(cell) => Turn::Below(cell),
+        Named::Cell(cell) => PartTurn::Below(cell),
     }
 }
 
@@ -183,7 +223,9 @@ fn child_spot(cell: u32, k: u32, level: u32) -> Spot
     }
 }
 
+#[cycle(merging)]
 /// Merges a subtree of a private octree into the shared tree from the published word of its cube on.
+#[inline]
 fn merge_below<P: Publisher, L: Ledger>(
     publisher: &P,
     table: &Words,
@@ -203,6 +245,7 @@ fn merge_below<P: Publisher, L: Ledger>(
     ensures pass { (pass.new.table_id ≡ pass.old.table_id) × (pass.new.me.1 ≡ pass.old.me.1) }
     ensures no_lock { (pass.new.me.0.locks ≡ []) × (pass.new.me.0.under ≡ []) }
     ensures merged { IsPartMerged pass.old.me.0 pass.new.me.0 points.now part.now spare.now key spot.level result.used result.changes }
+    ensures bodies { result.bodies ≡ risen 0 (length (bodies_under part.now)) }
     ensures steps { steps.new ≤ steps.old + most_steps part.now spot.level }
     ensures alone { IsAlone pass.old.me.0 → (result.changes ≤ 1) × (steps.new ≤ steps.old + 3) }
 {
@@ -210,50 +253,121 @@ fn merge_below<P: Publisher, L: Ledger>(
         Top::Nothing => Merged {
             used: 0,
             changes: 0,
+            bodies: 0,
         },
-        Top::Body(n) => {
-            match visit_part(
-                publisher, table, pass, spare, points, part, key, spot, steps,
-            ) {
-                Turn::Done(used) => Merged { used, changes: 1 },
-                Turn::Below(below) => {
-                    let k = octant(points.at(n), spot.level);
-                    let inner = child_spot(below, k, spot.level);
-                    let key_below = 8 * key + u64::from(k);
-                    merge_below(
-                        publisher, table, pass, spare, points, part, key_below, inner, steps,
-                    )
-                }
-            }
-        }
-        Top::Cell(cell) => {
-            let turn = visit_part(
-                publisher, table, pass, spare, points, part, key, spot, steps,
-            );
-            match turn {
-                Turn::Done(used) => Merged { used, changes: 1 },
-                Turn::Below(below) => {
-                    let mut used = 0;
-                    let mut changes = 0;
-                    for k in 0..8 {
-                        let inner = child_spot(below, k, spot.level);
-                        let merged = merge_below(
-                            publisher,
-                            table,
-                            pass,
-                            &spare[used..],
-                            points,
-                            &cell.child(k),
-                            8 * key + u64::from(k),
-                            inner,
-                            steps,
-                        );
-                        used += merged.used;
-                        changes += merged.changes;
-                    }
-                    Merged { used, changes }
-                }
-            }
+        Top::Body(n) => merge_body(
+            publisher, table, pass, spare, points, part, n, key, spot, steps,
+        ),
+        Top::Cell(cell) => match visit_part(
+            publisher, table, pass, spare, points, part, key, spot, steps,
+        ) {
+            PartTurn::Done(copied) => Merged {
+                used: copied.used,
+                changes: 1,
+                bodies: copied.bodies,
+            },
+            PartTurn::Below(below) => merge_cell(
+                publisher, table, pass, spare, points, cell, below, key, spot, steps,
+            ),
+        },
+    }
+}
+
+#[cycle(merging)]
+/// Merges the eight children of a private cell below the shared cell that its word names.
+fn merge_cell<P: Publisher, L: Ledger>(
+    publisher: &P,
+    table: &Words,
+    pass: &mut Pass,
+    spare: &[u32],
+    points: &Points,
+    cell: CellAt,
+    below: u32,
+    key: u64,
+    spot: Spot,
+    steps: &mut Steps<L>,
+) -> Merged
+    requires writing { table.now.key.writing ≡ P.writing }
+    requires place { pass.old.table_id ≡ table.now.table_id }
+    requires cell { IsCellAt cell cell }
+    requires at { IsPartIn pass.old.me.0 table.now.table_id.words points.now cell key spot }
+    requires below { IsBelow pass.old.me.0 key below }
+    requires ready { IsReady pass.old.me.0 table.now.table_id.words spare.now }
+    requires stock { CELLS_OF_ONE * length (bodies_under cell) ≤ length spare.now }
+    ensures pass { (pass.new.table_id ≡ pass.old.table_id) × (pass.new.me.1 ≡ pass.old.me.1) }
+    ensures no_lock { (pass.new.me.0.locks ≡ []) × (pass.new.me.0.under ≡ []) }
+    ensures merged { IsPartMerged pass.old.me.0 pass.new.me.0 points.now cell.entry spare.now key spot.level result.used result.changes }
+    ensures bodies { result.bodies ≡ risen 0 (length (bodies_under cell.entry)) }
+    ensures steps { steps.new + 3 ≤ steps.old + most_steps cell.entry spot.level }
+{
+    let mut used = 0;
+    let mut changes = 0;
+    let mut bodies = 0u64;
+    for k in 0..8 {
+        let inner = child_spot(below, k, spot.level);
+        let merged = merge_below(
+            publisher,
+            table,
+            pass,
+            &spare[used..],
+            points,
+            &cell.child(k),
+            8 * key + u64::from(k),
+            inner,
+            steps,
+        );
+        used += merged.used;
+        changes += merged.changes;
+        bodies = bodies.saturating_add(merged.bodies);
+    }
+    Merged {
+        used,
+        changes,
+        bodies,
+    }
+}
+
+/// Merges a subtree that is one body from the published word of its cube on.
+fn merge_body<P: Publisher, L: Ledger>(
+    publisher: &P,
+    table: &Words,
+    pass: &mut Pass,
+    spare: &[u32],
+    points: &Points,
+    part: &Subtree,
+    n: u32,
+    key: u64,
+    spot: Spot,
+    steps: &mut Steps<L>,
+) -> Merged
+    requires writing { table.now.key.writing ≡ P.writing }
+    requires place { pass.old.table_id ≡ table.now.table_id }
+    requires body { IsBodyAt part.now n }
+    requires at { IsPartIn pass.old.me.0 table.now.table_id.words points.now part.now key spot }
+    requires ready { IsReady pass.old.me.0 table.now.table_id.words spare.now }
+    requires stock { CELLS_OF_ONE * length (bodies_under part.now) ≤ length spare.now }
+    ensures pass { (pass.new.table_id ≡ pass.old.table_id) × (pass.new.me.1 ≡ pass.old.me.1) }
+    ensures no_lock { (pass.new.me.0.locks ≡ []) × (pass.new.me.0.under ≡ []) }
+    ensures merged { IsPartMerged pass.old.me.0 pass.new.me.0 points.now part.now spare.now key spot.level result.used result.changes }
+    ensures bodies { result.bodies ≡ risen 0 (length (bodies_under part.now)) }
+    ensures steps { steps.new ≤ steps.old + most_steps part.now spot.level }
+    ensures alone { IsAlone pass.old.me.0 → (result.changes ≤ 1) × (steps.new ≤ steps.old + 3) }
+{
+    match visit_part(
+        publisher, table, pass, spare, points, part, key, spot, steps,
+    ) {
+        PartTurn::Done(copied) => Merged {
+            used: copied.used,
+            changes: 1,
+            bodies: copied.bodies,
+        },
+        PartTurn::Below(below) => {
+            let k = octant(points.at(n), spot.level);
+            let inner = child_spot(below, k, spot.level);
+            let key_below = 8 * key + u64::from(k);
+            merge_body(
+                publisher, table, pass, spare, points, part, n, key_below, inner, steps,
+            )
         }
     }
 }
@@ -304,6 +418,7 @@ pub fn merge_part<P: Publisher, L: Ledger>(
     ensures within { result.used ≤ length spare.now }
     ensures few { result.used ≤ CELLS_OF_ONE * length (order (tree_of part.now)) }
     ensures merged { IsMerged pass.old.me.0 pass.new.me.0 (order (tree_of part.now)) (take result.used spare.now) }
+    ensures bodies { result.bodies ≡ risen 0 (length (order (tree_of part.now))) }
     ensures changes { pass.new.me.0.changes ≡ pass.old.me.0.changes + result.changes }
     ensures most { result.changes ≤ length (order (tree_of part.now)) }
     ensures some_change { 1 ≤ length (order (tree_of part.now)) → 1 ≤ result.changes }

@@ -256,7 +256,7 @@ impl TreeParts {
         ensures once { HasAllBodies (seen_of pass.old) self.now.opening → (result ≤ 1) × (steps.new ≤ steps.old + 3) }
     {
         part.canonical_tree(&self.points);
-        let bodies = count_bodies(&part.whole());
+        let _whole = part.whole();
         let merged = merge_part(
             publisher,
             &self.table.shared,
@@ -267,7 +267,7 @@ impl TreeParts {
             steps,
         );
         pass.region.spend(merged.used);
-        pass.published = pass.published.saturating_add(bodies);
+        pass.published = pass.published.saturating_add(merged.bodies);
         pass.changes = pass.changes.saturating_add(merged.changes);
         merged.changes
     }

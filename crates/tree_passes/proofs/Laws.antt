@@ -9,6 +9,7 @@ pub use Rattle.tree_passes.proofs.Turns.{place_still, ready_alone, ready_over, r
 pub use Rattle.tree_passes.proofs.Turns.{still_on, still_refl, still_written, there_still, todo_still}
 pub use Rattle.tree_passes.proofs.Finding.{body_inside, cell_below, found_body, looked_own, none_empty, none_other}
 -- private cells
+pub use Rattle.tree_passes.proofs.Made.{WithRow, cell_row}
 pub use Rattle.tree_passes.proofs.Made.{few_between, held_on, length_rest, ready_first, ready_on, ready_rest, rest_is, times_take, wrote_more, wrote_word}
 -- the words of a tree that was closed
 pub use Rattle.tree_passes.proofs.BeginsEnds.{closed_moved, octree_of_closed}

@@ -116,6 +116,35 @@ child_written before after c children key k value w l e is long = subst (λ (z :
       (λ q. get_or-set_other before (child_place c k) (child_place c j) value 0 (λ f. q (omega arith)) ∙ w.children_are j (omega arith));
 })
 
+-- A view in which a cell of the pass has these words.
+pub record WithRow (v : View) (c : ℕ) (children : List ℕ) (key count : ℕ) : Type 0 where
+  pub after : View
+  pub wrote : HasWritten v after (c ∷ [])
+  pub words : HasCellWords after.memory c children key count
+
+with_row : (v : View) (c : ℕ) (children : List ℕ) (key count : ℕ) → count ≤ KEY_PART → lock_place c < length v.memory → WithRow v c children key count
+with_row v c children key zero few long =
+    let after : View = record v { memory = set v.memory (child_place c KEY_PART) key } in
+    record {
+      after = after;
+      wrote = wrote_word v after c KEY_PART key (omega arith) refl;
+      words = key_written v.memory after.memory c children key refl long;
+    }
+with_row v c children key (suc n) few long =
+    let row = with_row v c children key n (omega arith) long in
+    let u : View = row.after in
+    let after : View = record u { memory = set u.memory (child_place c n) (at_of children n) } in
+    record {
+      after = after;
+      wrote = wrote_more v u after (c ∷ []) (c ∷ []) (c ∷ []) row.wrote (wrote_word u after c n (at_of children n) (omega arith) refl) (λ d p. p) (λ d p. p);
+      words = subst (HasCellWords after.memory c children key) (let e : n + 1 ≡ suc n = omega arith in e)
+          (child_written u.memory after.memory c children key n (at_of children n) row.words (omega arith) refl refl
+          (let l = row.wrote.long in omega arith));
+    }
+
+pub cell_row : (v : View) (c : ℕ) (children : List ℕ) (key : ℕ) → lock_place c < length v.memory → WithRow v c children key 8
+cell_row v c children key long = with_row v c children key 8 (omega arith) long
+
 -- the cell over a chain: the cells of the chain were not written again
 pub linked : (sites : List Site) (v w : View) (c d a key level x n : ℕ) (children : List ℕ) (Q : ℕ → Type 0)
     → HasWritten v w (c ∷ []) → HasCellWords w.memory c children key 8 → at_of children a ≡ cell_word d

@@ -18,7 +18,7 @@ use tree_rule::{place_of_child, word_of_body, word_of_cell};
 /// Sees to it that a word of a cell that the pass holds has a value: those of its children are 0 to 7,
 /// and its key is 8. A word that has it already is not stored, since a load costs less than a store.
 #[inline]
-pub fn write_word(table: &Words, pass: &mut Pass, cell: u32, part: u32, value: u64)
+fn write_word(table: &Words, pass: &mut Pass, cell: u32, part: u32, value: u64)
     requires place { pass.old.table_id ≡ table.now.table_id }
     requires part { part < ROW_WORDS }
     requires inside { lock_place cell < table.now.table_id.words }

@@ -13,7 +13,7 @@ mod plays;
 mod rule;
 mod view;
 
-pub use cells::{Cube, cells_to_part, part_two, read_word, write_cell, write_word};
+pub use cells::{Cube, cells_to_part, part_two, read_word, write_cell};
 pub use ends::{Tree, close, open_free, open_locked};
 pub use exchanges::exchange;
 pub use loads::{load, look};

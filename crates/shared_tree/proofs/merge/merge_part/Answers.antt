@@ -1,9 +1,10 @@
-use Rattle.std.proofs.Common.{arith, ◌*◌, ◌≤◌, List, ℕ, ap, length, subst, sym, take, ◌≡◌}
+use Rattle.std.proofs.Common.{arith, ◌*◌, ◌≤◌, List, ℕ, ap, length, subst, sym, take, ◌≡◌, ◌∙◌}
 use Rattle.bh_model.specs.Trees.{cell_count, order}
 use Rattle.octree.specs.Stored.{tree_of}
 use Rattle.tree_rule.specs.declared.words.TheConstants.{CELLS_OF_ONE}
 use Rattle.shared_tree.specs.Copying.{bodies_under}
 use Rattle.shared_tree.specs.Merging.{AreBlocks, IsMerged}
+use Rattle.shared_tree.specs.Seen.{risen}
 use Rattle.shared_tree.proofs.MergeRoots.{root_in}
 use Rattle.shared_tree.proofs.merge.merge_part.Given.{Over}
 use Rattle.shared_tree.proofs.merge.merge_part.Goals.{After-whole}
@@ -35,6 +36,10 @@ pub returns-clause-merged : goal.returns-clause-merged
 returns-clause-merged g c =
     subst (λ (l : List ℕ). IsMerged c.args.pass.now.me.0 c.merge_below.new.pass.me.0 l (take c.merge_below.result.used c.args.spare.now))
     (same g (goal.at.returns-clause-merged g c).After-whole) c.merge_below.ensures.merged.merged
+
+pub returns-clause-bodies : goal.returns-clause-bodies
+returns-clause-bodies g c =
+    c.merge_below.ensures.bodies ∙ ap (λ (l : List ℕ). risen 0 (length l)) (same g (goal.at.returns-clause-bodies g c).After-whole)
 
 pub returns-clause-changes : goal.returns-clause-changes
 returns-clause-changes g c = c.merge_below.ensures.merged.count

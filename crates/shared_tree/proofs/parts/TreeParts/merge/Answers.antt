@@ -9,7 +9,7 @@ use Rattle.tree_rule.specs.declared.words.TheConstants.{CELLS_OF_ONE}
 use Rattle.tree_passes.specs.Counting.{times}
 use Rattle.tree_passes.specs.Opening.{all_bodies}
 use Rattle.shared_tree.specs.Merging.{AreBlocks, HasAllBodies, IsMerged, others_among}
-use Rattle.shared_tree.specs.Seen.{IsAtRest, IsInside, PartsOfPass, SharedTree, risen, seen_of, state_of}
+use Rattle.shared_tree.specs.Seen.{IsAtRest, IsInside, PartsOfPass, SharedTree, seen_of, state_of}
 use Rattle.shared_tree.proofs.MergeRests.{alone_all, counted_merged, merged_seen, part_stocked, rest_merged}
 use Rattle.shared_tree.proofs.MergeRivals.{blocks_among}
 use Rattle.shared_tree.proofs.MergeRoots.{whole_once}
@@ -31,7 +31,7 @@ merge_part-merged-requires-clause-stock g c =
     let bodies = order (tree_of c.args.part.now) in
     subst (λ (z : List ℕ). CELLS_OF_ONE * length bodies ≤ length z) (sym c.rest.ensures)
     (part_stocked f.seat.me.0 f.seat.table_id.words f.region.cells bodies f.region.room (whole_once _ _ t.rule c.requires.base t.tree)
-    (λ x i. subst (λ (p : PartsOfPass). 1 ≤ times x p.view.todo) (sym c.pass.view_is) (c.requires.todo x ((c.whole.ensures.bodies x).0 i)))
+    (λ x i. subst (λ (p : PartsOfPass). 1 ≤ times x p.view.todo) (sym c.pass.view_is) (c.requires.todo x ((c.whole-whole.ensures.bodies x).0 i)))
     (subst (λ (p : PartsOfPass). 1 ≤ p.view.quota → CELLS_OF_ONE * length bodies ≤ length p.cells) (sym c.pass.view_is) c.requires.stock)
     c.pass.invariant.2)
 
@@ -48,7 +48,7 @@ invariant_of-pass g c =
     let within : used ≤ length cells = subst (λ (z : List ℕ). used ≤ length z) c.rest.ensures e.within in (
       e.pass.1 ∙ i.0,
       counted_merged f.seat.me.0 w bodies _ f.published f.changes _ _ _ _ m e.changes i.1
-          (c.count_bodies-bodies.ensures ∙ ap (λ (l : List ℕ). risen 0 (length l)) (ap order c.whole.ensures.tree))
+          c.merge_part-merged.ensures.bodies
           c.saturating_add-pass-inside.ensures c.saturating_add-pass-inside-2.ensures,
       subst (λ (z : ℕ × List ℕ × ℕ). IsAtRest w z.0 z.1 z.2)
           (λ k. (sym (ap (λ z. z.words) e.pass.0) k, sym c.spend.ensures.cells k, sym c.spend.ensures.room k))
