@@ -59,7 +59,7 @@ pub fn build_with_pieces<R: Threads + Sync, G: Gate>(
     ensures count { IfOk result (λ r. r.1 ≡ length (pieces (site_at points.now) workers (numbers (length points.now)))) }
 {
     let count = points.len();
-    let bodies = sorted_bodies(alloc, points)?;
+    let bodies = sorted_bodies(rt, alloc, points, workers)?;
     let codes = codes_alone(alloc, &bodies)?;
     let cubes = undivided_cubes(rt, alloc, &codes, piece_limit(count, workers), workers)?;
     let pieces = deal(alloc, &cubes, count, workers)?;

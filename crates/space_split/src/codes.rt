@@ -10,9 +10,12 @@ ghost use Rattle.octree.specs.Ranks.{body_of_rank};
 ghost use Rattle.space_split.specs.Sorted.{AreSorted, coded_in};
 
 use crate::interleave::{code_of, spreads};
+use crate::order::order_ranks;
 use octant_code::{MOST_BODIES, OutOfMemory, Points};
 use octree::body_of;
 use std::alloc::Global;
+use std::marker::Sync;
+use std::thread::Threads;
 
 /// How many numbers of bodies there are.
 const BODIES: u64 = MOST_BODIES as u64;
@@ -26,15 +29,20 @@ pub struct Coded {
 
 /// All bodies with their codes, the least code first, so that the bodies of each cube stand side by
 /// side. Ranks, of one word each, bring them into that order but for those whose codes differ in their
-/// last bits alone; only where such bodies stand the other way round does the last sort move any. One
-/// thread sorts 65,536 ranks in less time than several do.
-pub fn sorted_bodies(alloc: Global, points: &Points) -> Result<Vec<Coded>, OutOfMemory>
+/// last bits alone; only where such bodies stand the other way round does the last sort move any. The
+/// workers sort the ranks.
+pub fn sorted_bodies<R: Threads + Sync>(
+    rt: &R,
+    alloc: Global,
+    points: &Points,
+    workers: u32,
+) -> Result<Vec<Coded>, OutOfMemory>
     ensures { IfOk result (λ v. AreSorted points.now v.items) }
 {
     let _few = points.len();
     let codes = codes_of(alloc, points)?;
     let mut ranks = ranks_of(alloc, &codes)?;
-    ranks.sort_unstable();
+    order_ranks(rt, workers, ranks.as_mut_slice());
     let mut bodies = coded_bodies(alloc, &codes, &ranks)?;
     bodies.sort_unstable_by_key(|b: &Coded| b.code);
     Ok(bodies)

@@ -9,6 +9,7 @@ mod codes;
 mod count;
 mod cube;
 mod interleave;
+mod order;
 mod shares;
 mod split;
 #[cfg(test)]

@@ -34,7 +34,7 @@ pub fn pieces<R: Threads + Sync>(
     ensures { IfOk result (λ v. v.items ≡ pieces (site_at points.now) workers (numbers (length points.now))) }
 {
     let count = points.len();
-    let bodies = sorted_bodies(alloc, points)?;
+    let bodies = sorted_bodies(rt, alloc, points, workers)?;
     let codes = codes_alone(alloc, &bodies)?;
     let cubes = undivided_cubes(rt, alloc, &codes, piece_limit(count, workers), workers)?;
     deal(alloc, &cubes, count, workers)
