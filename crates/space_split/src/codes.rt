@@ -1,11 +1,10 @@
 //! The bodies in the order of their points' codes.
 
-ghost use Rattle.std.specs.Prelude.{◌≡◌, ◌<◌, ◌≤◌, ◌/◌, All, IfOk, length, map, max};
+ghost use Rattle.std.specs.Prelude.{◌≡◌, ◌<◌, ◌≤◌, All, IfOk, length, map};
 ghost use Rattle.octant_code.specs.Points.{site_at};
 ghost use Rattle.octant_code.specs.Space.{key_of};
 ghost use Rattle.octant_code.specs.declared.limits.TheConstants.{MOST_BODIES};
 ghost use Rattle.bh_model.specs.Bodies.{numbers};
-ghost use Rattle.bh_model.specs.Plans.{HasWorkers};
 ghost use Rattle.octree.specs.Ranks.{body_of_rank};
 ghost use Rattle.space_split.specs.Sorted.{AreSorted, coded_in};
 
@@ -46,14 +45,6 @@ pub fn sorted_bodies<R: Threads + Sync>(
     let mut bodies = coded_bodies(alloc, &codes, &ranks)?;
     bodies.sort_unstable_by_key(|b: &Coded| b.code);
     Ok(bodies)
-}
-
-/// How many items of so many a thread works on at least, where there is a thread for each worker.
-pub fn least_piece(count: usize, workers: u32) -> usize
-    requires { HasWorkers workers }
-    ensures { result ≡ max 1 (count / workers) }
-{
-    (count / workers as usize).max(1)
 }
 
 /// The codes of all points, by their numbers. One thread makes them in less time than it takes to start

@@ -6,7 +6,6 @@ ghost use Rattle.octant_code.specs.declared.limits.TheConstants.{LEVELS, MOST_BO
 ghost use Rattle.bh_model.specs.Plans.{HasWorkers};
 ghost use Rattle.space_split.specs.Ranges.{IsRange, codes_of, division_of, octant_count};
 
-use crate::codes::least_piece;
 use crate::cube::Cube;
 use octant_code::{LEVELS, OutOfMemory};
 use rayon::prelude::*;
@@ -39,6 +38,24 @@ pub fn divide<R: Threads + Sync>(
     Ok(next)
 }
 
+/// How many bodies a thread counts at least, on the average: it has counted fewer before another has begun.
+const LEAST_COUNTED: u64 = 32_768;
+
+/// How many cubes a thread takes at least: a worker's share of them, and as many as have enough bodies that
+/// still count. Nothing but time depends on it.
+fn least_cubes(cubes: &[Cube], most: u32, workers: u32) -> usize
+    requires { HasWorkers workers }
+{
+    let mut counted: u64 = 0;
+    for cube in cubes {
+        if cube.count > most {
+            counted = counted.saturating_add(u64::from(cube.count));
+        }
+    }
+    let enough = (cubes.len() as u64).saturating_mul(LEAST_COUNTED) / counted.max(1);
+    (cubes.len() / workers as usize).max(enough as usize).max(1)
+}
+
 /// How many bodies each cube with more than `most` bodies has in each octant.
 fn count_all<R: Threads + Sync>(
     rt: &R,
@@ -57,7 +74,7 @@ fn count_all<R: Threads + Sync>(
 {
     let counts: Vec<[u32; 8]> = cubes
         .par_iter()
-        .with_min_len(least_piece(cubes.len(), workers))
+        .with_min_len(least_cubes(cubes, most, workers))
         .map(
             |cube: &Cube| -> [u32; 8]
                 requires { (level < LEVELS) × (length codes.now ≤ MOST_BODIES) × IsRange codes.now most level cube.now }
