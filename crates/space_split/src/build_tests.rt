@@ -117,6 +117,18 @@ fn many_bodies_have_the_octree_of_insertion(rt: HostRuntime) -> Result<(), Fail>
 }
 
 #[test]
+fn workers_that_sort_have_the_order_of_insertion(rt: HostRuntime) -> Result<(), Fail> {
+    let triples = scattered(rt.alloc(), 17_000)?;
+    let points = points_of(rt.alloc(), &triples)?;
+    let plain = Octree::of_points(rt.alloc(), &points)?;
+    let tree = build(&rt, rt.alloc(), &points, 3, &OpenGate)?;
+    let order = tree.order(rt.alloc())? == plain.order(rt.alloc())?;
+    assert!(rt; order);
+    assert!(rt; tree.cells() == plain.cells());
+    Ok(())
+}
+
+#[test]
 fn two_workers_meet_after_their_first_piece(rt: HostRuntime) -> Result<(), Fail> {
     let triples = scattered(rt.alloc(), 4096)?;
     let points = points_of(rt.alloc(), &triples)?;
