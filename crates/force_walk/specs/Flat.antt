@@ -9,6 +9,7 @@ use Rattle.bh_model.specs.Trees.{Tree, Empty, Body, Cell}
 use Rattle.bh_model.specs.declared.moment.Moment.{Moment}
 use Rattle.mass_moments.specs.Kept.{moment_at}
 use Rattle.bh_model.specs.declared.pull.Pull.{Pull}
+use Rattle.force_walk.specs.declared.node.Laid.{Laid}
 use Rattle.force_walk.specs.declared.node.WalkNode.{WalkNode}
 
 -- ---- the table
@@ -47,6 +48,11 @@ unfoldable pub owners : Tree → List ℕ
 owners Empty = []
 owners (Body n) = suc n ∷ []
 owners (Cell a b c d e f g h) = 0 ∷ (owners a ++ owners b ++ owners c ++ owners d ++ owners e ++ owners f ++ owners g ++ owners h)
+
+-- nodes were appended, and whose they are
+pub record AreAdded (nodes : List WalkNode) (whose : List ℕ) (old new : Laid) : Type 0 where
+  pub nodes_are : new.nodes.items ≡ old.nodes.items ++ nodes
+  pub owners_are : new.owners.items ≡ old.owners.items ++ whose
 
 -- the place of each body that has a node is told by the body's number
 abbrev pub AreFound : List ℕ → List ℕ → Type 0

@@ -1,31 +1,31 @@
 //! The flat table is laid.
 
-ghost use Rattle.std.specs.Prelude.{◌≡◌, ◌+◌, ◌<◌, ◌-◌, ◌^◌, ◌∷◌, ◌++◌, [], ℕ, IfOk, List, OnOk, length, slice_index, slice_index_or, slice_set};
+ghost use Rattle.std.specs.Prelude.{◌≡◌, ◌<◌, ◌≤◌, ◌-◌, ◌^◌, ◌∷◌, [], All, IfOk, OnOk, length, slice_index_or, slice_set};
 ghost use Rattle.octant_code.specs.declared.limits.TheConstants.{LEVELS};
 ghost use Rattle.force_walk.specs.Cubes.{IsTreeOfCube};
-ghost use Rattle.force_walk.specs.Flat.{AreFound, body_node, flat, kept_node, no_node, owners};
+ghost use Rattle.force_walk.specs.Flat.{AreAdded, AreFound, body_node, flat, kept_node, no_node, owners};
 ghost use Rattle.mass_moments.specs.Kept.{HaveMatter, matter_of, moment_at};
 ghost use Rattle.octree.specs.Stored.{IsOctreeOf, tree_of};
 ghost use Rattle.octree.specs.Spot.{tree_under};
+ghost use Rattle.octree.specs.Subtree.{IsCellAt};
 ghost use Rattle.scene_file.specs.Bodies.{sites_of};
 
 use crate::least::SIDES;
-use crate::node::{FlatTable, WalkNode};
+use crate::node::{FlatTable, Laid, WalkNode};
 use mass_moments::Moments;
 use octant_code::{LEVELS, OutOfMemory};
-use octree::{CellNo, Octree, Subtree, Top};
+use octree::{CellAt, CellNo, Octree, Subtree, Top};
 use scene_file::Bodies;
 use std::alloc::Global;
 
-/// Appends a node.
+/// Appends a node, and whose it is.
 #[inline]
-fn push(nodes: &mut Vec<WalkNode>, node: WalkNode) -> Result<(), OutOfMemory>
-    ensures { OnOk result (nodes.new.items ≡ nodes.old.items ++ node ∷ []) }
+fn push(laid: &mut Laid, node: WalkNode, owner: u32) -> Result<(), OutOfMemory>
+    ensures { OnOk result (AreAdded (node ∷ []) (owner ∷ []) laid.old laid.new) }
 {
-    match nodes.push(node) {
-        Ok(()) => Ok(()),
-        Err(_) => Err(OutOfMemory),
-    }
+    laid.nodes.push(node)?;
+    laid.owners.push(owner)?;
+    Ok(())
 }
 
 /// The node of a body.
@@ -66,52 +66,69 @@ fn close(nodes: &mut Vec<WalkNode>, at: usize)
     nodes[at].skip = skip;
 }
 
-/// Appends the nodes of a subtree, whose cube has side `2^down`, and puts the places of its bodies' nodes at
-/// their numbers.
-#[tactic(auto, using(octree::proofs::Laws::child_height))]
+/// Appends the nodes of a cell, whose cube has side `2^down`, and of what is below it.
+fn lay_cell(
+    cell: CellAt,
+    moments: &Moments,
+    bodies: &Bodies,
+    least: &[u64; SIDES],
+    down: u32,
+    laid: &mut Laid,
+) -> Result<(), OutOfMemory>
+    requires cell { IsCellAt cell cell }
+    requires cube { IsTreeOfCube (matter_of bodies.now) (length bodies.now) down (tree_under cell) }
+    requires moments { HaveMatter cell.octree (matter_of bodies.now) moments.now }
+    ensures { OnOk result (AreAdded (flat (matter_of bodies.now) least.now down (tree_under cell.entry)) (owners (tree_under cell.entry)) laid.old laid.new) }
+{
+    let own = laid.nodes.len();
+    let node = node_of_cell(moments, cell.number(), least[down as usize]);
+    push(laid, node, 0)?;
+    for k in 0..8 {
+        match cell.child(k).top() {
+            Top::Nothing => {}
+            Top::Body(n) => push(laid, node_of_body(bodies, n), n + 1)?,
+            Top::Cell(part) => lay_cell(part, moments, bodies, least, down - 1, laid)?,
+        }
+    }
+    close(&mut laid.nodes, own);
+    Ok(())
+}
+
+/// Appends the nodes of a subtree, whose cube has side `2^down`.
 fn lay(
     at: &Subtree,
     moments: &Moments,
     bodies: &Bodies,
     least: &[u64; SIDES],
     down: u32,
-    nodes: &mut Vec<WalkNode>,
-    places: &mut [u32],
+    laid: &mut Laid,
 ) -> Result<(), OutOfMemory>
     requires cube { IsTreeOfCube (matter_of bodies.now) (length bodies.now) down (tree_under at.now) }
     requires moments { HaveMatter at.now.octree (matter_of bodies.now) moments.now }
-    requires long { length places.old ≡ length bodies.now }
-    requires few { length nodes.old.items + length (flat (matter_of bodies.now) least.now down (tree_under at.now)) < 2 ^ 32 }
-    ensures nodes { OnOk result (nodes.new.items ≡ nodes.old.items ++ flat (matter_of bodies.now) least.now down (tree_under at.now)) }
-    ensures places { OnOk result ((before : List ℕ) → length before ≡ length nodes.old.items → AreFound before places.old → AreFound (before ++ owners (tree_under at.now)) places.new) }
+    ensures { OnOk result (AreAdded (flat (matter_of bodies.now) least.now down (tree_under at.now)) (owners (tree_under at.now)) laid.old laid.new) }
 {
     match at.top() {
         Top::Nothing => Ok(()),
-        Top::Body(n) => {
-            places[n as usize] = nodes.len() as u32;
-            push(nodes, node_of_body(bodies, n))
-        }
-        Top::Cell(cell) => {
-            let own = nodes.len();
-            push(
-                nodes,
-                node_of_cell(moments, cell.number(), least[down as usize]),
-            )?;
-            for k in 0..8u32 {
-                lay(
-                    &cell.child(k),
-                    moments,
-                    bodies,
-                    least,
-                    down - 1,
-                    nodes,
-                    places,
-                )?;
-            }
-            close(nodes, own);
-            Ok(())
+        Top::Body(n) => push(laid, node_of_body(bodies, n), n + 1),
+        Top::Cell(cell) => lay_cell(cell, moments, bodies, least, down, laid),
+    }
+}
+
+/// The place of each body's own node, by the body's number.
+fn places_of(alloc: Global, owners: &[u32], count: u32) -> Result<Vec<u32>, OutOfMemory>
+    requires few { length owners.now < 2 ^ 32 }
+    requires known { All (λ owner. owner ≤ count) owners.now }
+    ensures long { IfOk result (λ places. length places.items ≡ count) }
+    ensures found { IfOk result (λ places. AreFound owners.now places.items) }
+{
+    let mut places = vec![in alloc; 0u32; count as usize]?;
+    for at in 0..owners.len() {
+        let owner = owners[at];
+        if owner > 0 {
+            places[owner as usize - 1] = at as u32;
         }
     }
+    Ok(places)
 }
 
 /// The flat table of the canonical octree of all bodies. Room for all nodes is taken at once.
@@ -128,21 +145,15 @@ pub fn flat_table(
     ensures long { IfOk result (λ table. length table.places.items ≡ length bodies.now) }
     ensures places { IfOk result (λ table. AreFound (owners (tree_of tree.now)) table.places.items) }
 {
-    let count = bodies.len() as usize;
-    let Ok(mut nodes) = Vec::with_capacity(alloc, tree.used() as usize + count) else {
-        return Err(OutOfMemory);
+    let most = tree.used() as usize + bodies.len() as usize;
+    let mut laid = Laid {
+        nodes: Vec::with_capacity(alloc, most)?,
+        owners: Vec::with_capacity(alloc, most)?,
     };
-    let Ok(mut places) = vec![in alloc; 0u32; count] else {
-        return Err(OutOfMemory);
-    };
-    lay(
-        &tree.whole(),
-        moments,
-        bodies,
-        least,
-        LEVELS,
-        &mut nodes,
-        &mut places,
-    )?;
-    Ok(FlatTable { nodes, places })
+    lay(&tree.whole(), moments, bodies, least, LEVELS, &mut laid)?;
+    let places = places_of(alloc, laid.owners.as_slice(), bodies.len())?;
+    Ok(FlatTable {
+        nodes: laid.nodes,
+        places,
+    })
 }

@@ -16,6 +16,14 @@ pub struct WalkNode {
     pub mass: u64,
 }
 
+/// Nodes that are laid one after another, and whose each one is: one more than a body's number, and 0 for
+/// a cell.
+#[derive(Drop)]
+pub struct Laid {
+    pub nodes: Vec<WalkNode>,
+    pub owners: Vec<u32>,
+}
+
 /// The nodes of an octree in tree order, each cell before what is below it, and the place of each body's
 /// own node by the body's number.
 #[derive(Drop)]

@@ -1,22 +1,42 @@
-use Rattle.std.proofs.Common.{length, ap, arith, sym, subst}
+use Rattle.std.proofs.Common.{List, ℕ, ◌++◌, ◌≤◌, ◌≡◌, ◌∙◌, All, ap, arith, length, subst, sym}
 use Rattle.bh_model.specs.Trees.{Tree}
 use Rattle.mass_moments.specs.Kept.{matter_of}
 use Rattle.octree.specs.Spot.{tree_under}
 use Rattle.force_walk.specs.Cubes.{IsTreeOfCube}
+use Rattle.force_walk.specs.Flat.{owners}
 use Rattle.force_walk.proofs.Cubes.{cube_few}
+use Rattle.force_walk.proofs.Flats.{owners_long}
+use Rattle.force_walk.proofs.Layings.{owners_known}
 use Rattle.force_walk.proofs.Scenes.{scene_cube}
-use Rattle.force_walk.proofs.lay.flat_table.Goals.{After-whole}
+use Rattle.force_walk.proofs.lay.flat_table.Goals.{After-len-2, After-whole}
 use Rattle.force_walk.proofs.lay.flat_table.Goals as goal
 
 -- the tree is that of the whole cube
 cube : (c : After-whole) → IsTreeOfCube (matter_of c.args.bodies.now) (length c.args.bodies.now) 21 (tree_under c.whole.result)
 cube c =
     subst (λ (t : Tree). IsTreeOfCube (matter_of c.args.bodies.now) (length c.args.bodies.now) 21 t) (sym c.whole.ensures.tree)
-    (scene_cube c.args.bodies.now c.args.tree.now (record { rule = c.len-count.ensures.rule; octree = c.requires.octree }))
+    (scene_cube c.args.bodies.now c.args.tree.now (record { rule = c.len.ensures.rule; octree = c.requires.octree }))
 
 pub lay-requires-clause-cube : goal.lay-requires-clause-cube
 lay-requires-clause-cube c = cube (goal.at.lay-requires-clause-cube c).After-whole
 
-pub lay-requires-clause-few : goal.lay-requires-clause-few
-lay-requires-clause-few c =
-    omega (arith, cube_few c.args.least.now (cube (goal.at.lay-requires-clause-few c).After-whole), ap length c.in-Ok.ensures.items)
+-- the owners are those of the octree
+owned : (c : After-len-2) → c.as_slice.result.now ≡ owners (tree_under c.whole.result)
+owned c =
+    c.as_slice.ensures.value ∙ c.in_ok-lay.ensures.owners_are
+    ∙ ap (λ l. l ++ owners (tree_under c.whole.result)) c.in_ok-with_capacity-2.ensures.items
+
+pub places_of-requires-clause-few : goal.places_of-requires-clause-few
+places_of-requires-clause-few c =
+    omega (
+      arith,
+      ap length (owned c),
+      owners_long (matter_of c.args.bodies.now) c.args.least.now 21 (tree_under c.whole.result),
+      cube_few c.args.least.now (cube (goal.at.places_of-requires-clause-few c).After-whole),
+    )
+
+pub places_of-requires-clause-known : goal.places_of-requires-clause-known
+places_of-requires-clause-known c =
+    subst (λ (l : List ℕ). All (λ o. o ≤ c.len-2.result) l) (sym (owned c))
+    (subst (λ (n : ℕ). All (λ o. o ≤ n) (owners (tree_under c.whole.result))) (sym c.len-2.ensures.value)
+    (owners_known (length c.args.bodies.now) 21 (tree_under c.whole.result) (cube (goal.at.places_of-requires-clause-known c).After-whole).stands))
