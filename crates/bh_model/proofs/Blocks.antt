@@ -76,8 +76,12 @@ blocks_some site (suc below) level key (x ∷ rest) (m ∷ more) n sum mine thei
     (in_octant-under site level key k bodies mine) (in_octant-under site level key k others theirs)
     (λ a b p q. apart a b (in_octant-member site level k bodies a p).0 (in_octant-member site level k others b q).0)
     (in_octant-keeps site level bodies n k i refl) in
-    omega (arith, blocks-many site below level x m rest more, one,
-      sum_upto-term (octant_blocks site below level bodies others) k 8 (octant-small (site n) level))
+    omega (
+      arith,
+      blocks-many site below level x m rest more,
+      one,
+      sum_upto-term (octant_blocks site below level bodies others) k 8 (octant-small (site n) level),
+    )
 
 -- points of numbers in range are apart at the deepest level, where the numbers are others
 keys_apart : (sites : List Site) (a b : ℕ) → ArePoints sites → a < length sites → b < length sites → a ≢ b

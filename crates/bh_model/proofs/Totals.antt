@@ -21,9 +21,16 @@ each_of_eight P a b c d e f g h (suc (suc (suc (suc (suc (suc (suc (suc k)))))))
 
 -- and those of all eight
 pub all_eight : (P : ℕ → Type 0) → ((k : ℕ) → k < 8 → P k) → P 0 × P 1 × P 2 × P 3 × P 4 × P 5 × P 6 × P 7
-all_eight P each =
-    (each 0 (omega arith), each 1 (omega arith), each 2 (omega arith), each 3 (omega arith), each 4 (omega arith), each 5 (omega arith),
-      each 6 (omega arith), each 7 (omega arith))
+all_eight P each = (
+  each 0 (omega arith),
+  each 1 (omega arith),
+  each 2 (omega arith),
+  each 3 (omega arith),
+  each 4 (omega arith),
+  each 5 (omega arith),
+  each 6 (omega arith),
+  each 7 (omega arith),
+)
 
 -- the sum of the first k values of a function
 unfoldable pub sum_upto : (ℕ → ℕ) → ℕ → ℕ

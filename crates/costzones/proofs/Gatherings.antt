@@ -88,7 +88,7 @@ opened-all cost low high (Cell a b c d e f g h) p one from to =
     → opened_from cost low high q t ≡ busy t in
     let each : (k : ℕ) → k < 8 → (q : ℕ) → all q (kid k) =
     each_of_eight (λ k. (q : ℕ) → all q (kid k)) (opened-all cost low high a) (opened-all cost low high b) (opened-all cost low high c)
-      (opened-all cost low high d) (opened-all cost low high e) (opened-all cost low high f) (opened-all cost low high g)
+    (opened-all cost low high d) (opened-all cost low high e) (opened-all cost low high f) (opened-all cost low high g)
     (opened-all cost low high h) in
     let orders = total-order cost (cell_of kid) in
     elim (cases_lt 0 (length (order (cell_of kid)))) [

@@ -70,7 +70,7 @@ pub drifted_is : (e : EngineState) (step : ℕ) (bodies : List Body) (motion : L
     → motion ≡ stepped pulls e.motion → costs ≡ map cost_after pulls
     → shares ≡ zones (cost_at e.costs) e.plan.workers (tree_of_bodies e.bodies)
     → (let next : EngineState = record e { step = step; bodies = bodies; motion = motion; costs = costs; shares = shares; stage = WithoutTree } in
-      next ≡ drifted e)
+    next ≡ drifted e)
 drifted_is e step bodies motion costs shares pulls found number points moves counts cut =
     let made : ℕ → List Body → List BodyMotion → List ℕ → List (List ℕ) → EngineState =
     λ n b m c s. record e { step = n; bodies = b; motion = m; costs = c; shares = s; stage = WithoutTree } in

@@ -1,5 +1,6 @@
 -- Why each end of a run meets its promise.
-use Rattle.std.proofs.Common.{◌≡◌, ◌∙◌, ◌<◌, ℕ, List, [], ◌∷◌, ◌++◌, Bool, true, false, IsFalse, IsTrue, Option, Some, None, Result, Ok, Err, length, cond, refl}
+use Rattle.std.proofs.Common.{◌≡◌, ◌∙◌, ◌<◌, ℕ, List, [], ◌∷◌, ◌++◌, Bool, true, false, IsFalse, IsTrue, Option, Some, None, Result, Ok, Err}
+use Rattle.std.proofs.Common.{length, cond, refl}
 use Rattle.std.specs.Prelude.{IfErr}
 use Rattle.std.proofs.Common.{sym, ap, subst, arith, inl, inr}
 use Rattle.std.proofs.lemmas.List.{append-nil, length-append}
@@ -23,10 +24,12 @@ use Rattle.nbody_options.specs.declared.options.Command.TheVariants as command
 use Rattle.probe.specs.States.{ProbeState}
 use Rattle.shared_tree.specs.Seen.{YardCounts}
 use Rattle.nbody_cli.proofs.Turns.{amid_counts, amid_took, stayed, still, still_amid, whole_counts, whole_took}
-use Rattle.nbody_cli.specs.Serving.{AreLeft, Completes, Counts, Ends, EndsEarly, InTurn, IsCounted, IsOpened, Output, Ports, Runs, Serves, ServesOptions, Wanted, World}
+use Rattle.nbody_cli.specs.Serving.{AreLeft, Completes, Counts, Ends, EndsEarly, InTurn, IsCounted, IsOpened, Output, Ports, Runs, Serves}
+use Rattle.nbody_cli.specs.Serving.{ServesOptions, Wanted, World}
 use Rattle.nbody_cli.specs.Serving.{chosen_builder, needs_source, other_yard_of, output, output_of, ports, reads_source, scene_made_of, status_of_fault, wanted}
 use Rattle.nbody_cli.specs.Serving.{wanted_of_frames, wanted_of_scene, world, yard_of}
-use Rattle.nbody_cli.specs.Text.{Part, command_parts, frame_parts, frames_of_command, kept_probes, published_by, refused_line, text_of, usage_line, without_tree}
+use Rattle.nbody_cli.specs.Text.{Part, command_parts, frame_parts, frames_of_command, kept_probes, published_by, refused_line, text_of, usage_line}
+use Rattle.nbody_cli.specs.Text.{without_tree}
 use Rattle.nbody_cli.specs.declared.status.Status.{Status}
 use Rattle.nbody_cli.specs.declared.status.Status.TheVariants as status
 
@@ -41,7 +44,8 @@ wanted_by : (ps : List ProbeState) (o : Choices) (bytes : List ℕ) (test : Bool
     → wanted ps (Some o) bytes ≡ cond test (wanted_of_scene ps o (scene_of bytes)) (wanted_of_frames ps o (scene_made_of o.made))
 wanted_by ps o bytes test is = ap (λ b. cond b (wanted_of_scene ps o (scene_of bytes)) (wanted_of_frames ps o (scene_made_of o.made))) is
 
-wanted_is : (ps : List ProbeState) (o : Choices) (bytes : List ℕ) → reads_source o.command ≡ true → wanted ps (Some o) bytes ≡ wanted_of_scene ps o (scene_of bytes)
+wanted_is : (ps : List ProbeState) (o : Choices) (bytes : List ℕ) → reads_source o.command ≡ true
+    → wanted ps (Some o) bytes ≡ wanted_of_scene ps o (scene_of bytes)
 wanted_is ps o bytes reads = wanted_by ps o bytes true reads
 
 -- a trial has the same frames whatever the passes of its scene
@@ -66,7 +70,8 @@ wanted_made ps o bytes bodies passes trial made =
     ∙ ap W (trial_frames o.command o bodies passes trial)
 
 -- whatever the scene, it has to be read
-reads_scene : (ps : List ProbeState) (o : Choices) (scene : Result SceneParts SceneFault) → reads_source o.command ≡ true → (wanted_of_scene ps o scene).reads ≡ true
+reads_scene : (ps : List ProbeState) (o : Choices) (scene : Result SceneParts SceneFault) → reads_source o.command ≡ true
+    → (wanted_of_scene ps o scene).reads ≡ true
 reads_scene ps o (Ok scene) reads = reads
 reads_scene ps o (Err f) reads = refl
 
@@ -160,7 +165,8 @@ line_failed w line l0 l1 wb wn rb rn kb kn y is rose h =
     }
 
 -- a run that ended early, by its scene
-early : (ps : List ProbeState) (o : Choices) (scene : Result SceneParts SceneFault) (l0 l1 wb wn : Option (List ℕ)) (rb rn kb kn : ℕ) (y : YardCounts) (s : Status)
+early : (ps : List ProbeState) (o : Choices) (scene : Result SceneParts SceneFault) (l0 l1 wb wn : Option (List ℕ)) (rb rn kb kn : ℕ)
+    (y : YardCounts) (s : Status)
     → EndsEarly s scene wb kb wn kn → IsEnd (wanted_of_scene ps o scene) (ports l0 rb wb kb) (ports l1 rn wn kn) y y s
 early ps o scene l0 l1 wb wn rb rn kb kn y status.Done h = absurd h
 early ps o scene l0 l1 wb wn rb rn kb kn y status.Usage h = absurd h
@@ -209,7 +215,8 @@ waits_for_nobody builder.Space other = tt
 -- ---- runs of options
 
 -- a run of options by its bytes and its end
-options_end : (ps : List ProbeState) (o : Choices) (bytes : List ℕ) (w : Wanted) (before after : Ports) (y z : YardCounts) (s : Status) → AreLeft before.left bytes
+options_end : (ps : List ProbeState) (o : Choices) (bytes : List ℕ) (w : Wanted) (before after : Ports) (y z : YardCounts) (s : Status)
+    → AreLeft before.left bytes
     → wanted ps (Some o) bytes ≡ w → (s ≡ status.Usage → ⊥) → IsEnd w before after y z s → ServesOptions ps o before after y z s
 options_end ps o bytes w before after y z s told is no_usage h =
     let P : Wanted → Type 0 = λ v. IsEnd v before after y z s in
@@ -247,7 +254,8 @@ early_no_usage scene w v k l status.Scene h e = cc
 early_no_usage scene w v k l status.Memory h e = cc
 
 -- a run that ended early, by the scene of its bytes
-options_early : (ps : List ProbeState) (o : Choices) (bytes : List ℕ) (scene : Result SceneParts SceneFault) (l0 l1 wb wn : Option (List ℕ)) (rb rn kb kn : ℕ) (y : YardCounts)
+options_early : (ps : List ProbeState) (o : Choices) (bytes : List ℕ) (scene : Result SceneParts SceneFault) (l0 l1 wb wn : Option (List ℕ))
+    (rb rn kb kn : ℕ) (y : YardCounts)
     (s : Status) → reads_source o.command ≡ true → AreLeft l0 bytes → scene_of bytes ≡ scene → EndsEarly s scene wb kb wn kn
     → ServesOptions ps o (ports l0 rb wb kb) (ports l1 rn wn kn) y y s
 options_early ps o bytes scene l0 l1 wb wn rb rn kb kn y s reads told is h =
@@ -255,7 +263,8 @@ options_early ps o bytes scene l0 l1 wb wn rb rn kb kn y s reads told is h =
     (wanted_is ps o bytes reads ∙ ap (wanted_of_scene ps o) is) (early_no_usage scene wb wn kb kn s h) (early ps o scene l0 l1 wb wn rb rn kb kn y s h)
 
 -- there were too many bytes
-pub options_long : (ps : List ProbeState) (o : Choices) (l0 l1 : Option (List ℕ)) (given : List ℕ) (wb wn : Option (List ℕ)) (rb rn kb kn : ℕ) (y : YardCounts) (s : Status)
+pub options_long : (ps : List ProbeState) (o : Choices) (l0 l1 : Option (List ℕ)) (given : List ℕ) (wb wn : Option (List ℕ)) (rb rn kb kn : ℕ)
+    (y : YardCounts) (s : Status)
     → reads_source o.command ≡ true → Consumes l0 l1 given → 16777216 < length given → EndsEarly s (Err fault.TooLong) wb kb wn kn
     → ServesOptions ps o (ports l0 rb wb kb) (ports l1 rn wn kn) y y s
 options_long ps o l0 l1 given wb wn rb rn kb kn y s reads gave long h =
@@ -263,7 +272,8 @@ options_long ps o l0 l1 given wb wn rb rn kb kn y s reads gave long h =
     (long_scene (left_or l0 given) (longer l0 l1 given 16777216 gave long)) h
 
 -- all bytes were read, and the run ended early
-options_scene : (ps : List ProbeState) (o : Choices) (l0 l1 : Option (List ℕ)) (bytes : List ℕ) (wb wn : Option (List ℕ)) (rb rn kb kn : ℕ) (y : YardCounts) (s : Status)
+options_scene : (ps : List ProbeState) (o : Choices) (l0 l1 : Option (List ℕ)) (bytes : List ℕ) (wb wn : Option (List ℕ)) (rb rn kb kn : ℕ)
+    (y : YardCounts) (s : Status)
     → reads_source o.command ≡ true → Consumes l0 l1 bytes → IsAtEnd l1 → EndsEarly s (scene_of bytes) wb kb wn kn
     → ServesOptions ps o (ports l0 rb wb kb) (ports l1 rn wn kn) y y s
 options_scene ps o l0 l1 bytes wb wn rb rn kb kn y s reads gave end h =
@@ -300,7 +310,8 @@ runs_no_usage parts b a status.Scene h e = cc
 runs_no_usage parts b a status.Memory h e = cc
 
 -- a run that had its engine
-pub options_ran : (ps : List ProbeState) (o : Choices) (e : EngineState) (passes : List (List Move)) (l0 l1 wb wn : Option (List ℕ)) (rb rn kb kn : ℕ) (y z : YardCounts) (s : Status)
+pub options_ran : (ps : List ProbeState) (o : Choices) (e : EngineState) (passes : List (List Move)) (l0 l1 wb wn : Option (List ℕ))
+    (rb rn kb kn : ℕ) (y z : YardCounts) (s : Status)
     → IsOpened ps o l0 l1 e passes → IsCounted y
     → Runs (command_parts ps o (record { bodies = e.bodies; passes = passes })) (output wb kb y) (output wn kn z) s
     → ServesOptions ps o (ports l0 rb wb kb) (ports l1 rn wn kn) y z s
@@ -327,7 +338,8 @@ no_options ps bytes before after locked free s told h = record {
 }
 
 -- there are no options, and the usage line was written
-pub serves_usage : (ps : List ProbeState) (options : Option Choices) (l wb wn : Option (List ℕ)) (r kb kn : ℕ) (locked free : YardCounts) → options ≡ None → Took wb wn usage_line
+pub serves_usage : (ps : List ProbeState) (options : Option Choices) (l wb wn : Option (List ℕ)) (r kb kn : ℕ) (locked free : YardCounts)
+    → options ≡ None → Took wb wn usage_line
     → Serves ps options (world (ports l r wb kb) locked free) (world (ports l r wn kn) locked free) status.Usage
 unfolding NoOptions
 serves_usage ps options l wb wn r kb kn locked free none h =
@@ -336,7 +348,8 @@ serves_usage ps options l wb wn r kb kn locked free none h =
     (record { ends = (refl, line_took usage_line wb wn h); counts = refl; in_turn = tt }))
 
 -- there are none, and the writing of that line failed
-pub serves_no_usage : (ps : List ProbeState) (options : Option Choices) (l wb wn : Option (List ℕ)) (r kb kn : ℕ) (locked free : YardCounts) → options ≡ None → Rose kb kn
+pub serves_no_usage : (ps : List ProbeState) (options : Option Choices) (l wb wn : Option (List ℕ)) (r kb kn : ℕ) (locked free : YardCounts)
+    → options ≡ None → Rose kb kn
     → TookPrefix wb wn usage_line → Serves ps options (world (ports l r wb kb) locked free) (world (ports l r wn kn) locked free) status.Write
 unfolding NoOptions
 serves_no_usage ps options l wb wn r kb kn locked free none rose h =
@@ -388,7 +401,8 @@ free_has builder.Space P before after other h same = record { own = h; other = s
 HasServed : (ps : List ProbeState) (o : Choices) (before after : Ports) (s : Status) → YardCounts → YardCounts → Type 0
 HasServed ps o before after s y z = ServesOptions ps o before after y z s
 
-serves_over : (ps : List ProbeState) (o : Choices) (before after : World) (s : Status) → YardHas o.plan.builder (HasServed ps o before.ports after.ports s) before after
+serves_over : (ps : List ProbeState) (o : Choices) (before after : World) (s : Status)
+    → YardHas o.plan.builder (HasServed ps o before.ports after.ports s) before after
     → Serves ps (Some o) before after s
 unfolding HasServed
 serves_over ps o before after s h =

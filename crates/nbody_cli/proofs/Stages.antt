@@ -1,5 +1,6 @@
 -- The frames that are left of a run, and the next of them.
-use Rattle.std.proofs.Common.{◌≡◌, ◌∙◌, ◌<◌, ◌≤◌, ◌+◌, ◌-◌, ℕ, zero, suc, Bool, true, false, cond, Option, List, [], ◌∷◌, ◌++◌, length, take, drop, refl, sym, ap, subst, arith}
+use Rattle.std.proofs.Common.{◌≡◌, ◌∙◌, ◌<◌, ◌≤◌, ◌+◌, ◌-◌, ℕ, zero, suc, Bool, true, false, cond, Option, List, [], ◌∷◌, ◌++◌, length, take, drop}
+use Rattle.std.proofs.Common.{refl, sym, ap, subst, arith}
 use Rattle.std.proofs.lemmas.Bool.Decides.{nat_tests}
 use Rattle.std.proofs.lemmas.List.{append-nil, at_drop_all, at_drop_more}
 use Rattle.std.specs.Prelude.{nat_lt}
@@ -204,7 +205,8 @@ abbrev parts_later : List ProbeState → Choices → List (List Move) → ℕ �
 parts_later ps o passes i e = parts_left (left_after (frame_of e) ps) o passes (count_of o passes - (i + 1)) (i + 1) (next o passes i e)
 
 -- the parts that are left where a frame is
-way_left : {makes : Builder → Type 0} {all : List ProbeState} {o : Choices} {scene : SceneParts} {b : Output} {i : ℕ} {now : Output} {e : EngineState} {ps : List ProbeState} → i < count_of o scene.passes
+way_left : {makes : Builder → Type 0} {all : List ProbeState} {o : Choices} {scene : SceneParts} {b : Output} {i : ℕ} {now : Output}
+    {e : EngineState} {ps : List ProbeState} → i < count_of o scene.passes
     → IsOnTheWay makes all o scene b i now e ps
     → GoesOn (command_parts all o scene) (part_of_frame ps o e ∷ parts_later ps o scene.passes i e) b now
 way_left {all = all} {o = o} {scene = scene} {b = b} {i = i} {now = now} {e = e} {ps = ps} less way =
@@ -224,7 +226,8 @@ next_bodies command.Run steps passes i e first is within bodies = cc
 next_bodies command.Trial steps passes i e first is within bodies = cc
 
 -- the pass of a number can be one over the bodies of its frame, whose tree was made
-pub way_pass : {makes : Builder → Type 0} {all : List ProbeState} {o : Choices} {scene : SceneParts} {b : Output} {i : ℕ} {now : Output} {e e1 : EngineState} {ps : List ProbeState}
+pub way_pass : {makes : Builder → Type 0} {all : List ProbeState} {o : Choices} {scene : SceneParts} {b : Output} {i : ℕ} {now : Output}
+    {e e1 : EngineState} {ps : List ProbeState}
     → IsScene scene → IsOnTheWay makes all o scene b i now e ps → e1 ≡ with_tree e → o.command ≡ command.Passes → i < length scene.passes
     → IsPass e1.bodies (pass_at scene.passes i)
 way_pass {scene = scene} {i = i} accepted way made passes within =
@@ -243,7 +246,8 @@ part_made ps o e e1 w v k l y z s made counted rose h =
     part_shown (part_of_frame ps o e) w v k l y z s counted rose (subst P made h)
 
 -- the tree of a frame was refused
-pub way_refused : {makes : Builder → Type 0} {all : List ProbeState} {o : Choices} {scene : SceneParts} {b : Output} {i end : ℕ} {w : Option (List ℕ)} {k : ℕ} {y z : YardCounts} {e : EngineState} {ps : List ProbeState}
+pub way_refused : {makes : Builder → Type 0} {all : List ProbeState} {o : Choices} {scene : SceneParts} {b : Output} {i end : ℕ}
+    {w : Option (List ℕ)} {k : ℕ} {y z : YardCounts} {e : EngineState} {ps : List ProbeState}
     → i < end → end ≡ count_of o scene.passes → IsOnTheWay makes all o scene b i (output w k y) e ps → z ≡ y
     → Runs (command_parts all o scene) b (output w k z) status.Memory
 way_refused {all = all} {o = o} {scene = scene} {b = b} {i = i} {w = w} {k = k} {y = y} {z = z} {e = e} {ps = ps} less count way same =
@@ -251,8 +255,10 @@ way_refused {all = all} {o = o} {scene = scene} {b = b} {i = i} {w = w} {k = k} 
     (way_left (omega arith) way) (part_refused (part_of_frame ps o e) w k y z same) (λ e. cc)
 
 -- the run stopped as a frame whose tree was made was shown
-pub way_stop : {makes : Builder → Type 0} {all : List ProbeState} {o : Choices} {scene : SceneParts} {b : Output} {i end : ℕ} {w : Option (List ℕ)} {k : ℕ} {y z : YardCounts} {e e1 : EngineState} {ps : List ProbeState} {s : Status}
-    (v : Option (List ℕ)) (l : ℕ) → i < end → end ≡ count_of o scene.passes → IsOnTheWay makes all o scene b i (output w k y) e ps → e1 ≡ with_tree e → IsCounted y
+pub way_stop : {makes : Builder → Type 0} {all : List ProbeState} {o : Choices} {scene : SceneParts} {b : Output} {i end : ℕ} {w : Option (List ℕ)}
+    {k : ℕ} {y z : YardCounts} {e e1 : EngineState} {ps : List ProbeState} {s : Status}
+    (v : Option (List ℕ)) (l : ℕ) → i < end → end ≡ count_of o scene.passes → IsOnTheWay makes all o scene b i (output w k y) e ps → e1 ≡ with_tree e
+    → IsCounted y
     → Rises (builder_publishes e) y z → Shows (lines_text (lines_of_frame o.command o e1) ++ lines_at (frame_of e1) ps) w k v l s
     → (s ≡ status.Done → ⊥) → Runs (command_parts all o scene) b (output v l z) s
 way_stop {all = all} {o = o} {scene = scene} {b = b} {i = i} {w = w} {k = k} {y = y} {z = z} {e = e} {e1 = e1} {ps = ps} {s = s} v l less count
@@ -261,12 +267,14 @@ way_stop {all = all} {o = o} {scene = scene} {b = b} {i = i} {w = w} {k = k} {y 
     (way_left (omega arith) way) (part_made ps o e e1 w v k l y z s made counted rose shown) other
 
 -- a frame whose tree was made is whole, the bodies moved on, and the probes saw it
-pub way_next : {makes : Builder → Type 0} {all : List ProbeState} {o : Choices} {scene : SceneParts} {b : Output} {i end : ℕ} {w v : Option (List ℕ)} {k l : ℕ} {y z : YardCounts} {e e1 e' : EngineState} {ps ps' : List ProbeState} {s : Status}
+pub way_next : {makes : Builder → Type 0} {all : List ProbeState} {o : Choices} {scene : SceneParts} {b : Output} {i end : ℕ} {w v : Option (List ℕ)}
+    {k l : ℕ} {y z : YardCounts} {e e1 e' : EngineState} {ps ps' : List ProbeState} {s : Status}
     → i < end → end ≡ count_of o scene.passes → IsOnTheWay makes all o scene b i (output w k y) e ps → e1 ≡ with_tree e → IsCounted y
     → Rises (builder_publishes e) y z → Shows (lines_text (lines_of_frame o.command o e1) ++ lines_at (frame_of e1) ps) w k v l s → s ≡ status.Done
     → e' ≡ moved_on o.command o.steps scene.passes i (with_parts o.command e1) → ps' ≡ left_after (frame_of e1) ps
     → IsOnTheWay makes all o scene b (i + 1) (output v l z) e' ps'
-way_next {makes = makes} {all = all} {o = o} {scene = scene} {b = b} {i = i} {w = w} {v = v} {k = k} {l = l} {y = y} {z = z} {e = e} {e1 = e1} {ps = ps} {ps' = ps'} {s = s}
+way_next {makes = makes} {all = all} {o = o} {scene = scene} {b = b} {i = i} {w = w} {v = v} {k = k} {l = l} {y = y} {z = z} {e = e} {e1 = e1}
+    {ps = ps} {ps' = ps'} {s = s}
     less count way made counted rose shown done moved seen =
     let then = output v l z in
     let first = next o scene.passes i e in
@@ -293,7 +301,8 @@ runs_last all p b now a status.Scene way h = absurd h
 runs_last all p b now a status.Memory way h = on_stop all [] p b now a status.Memory way h (λ e. cc)
 
 -- all frames are whole, and the probes that are left tell their lines
-pub way_end : {makes : Builder → Type 0} {all : List ProbeState} {o : Choices} {scene : SceneParts} {b : Output} {i end : ℕ} {w : Option (List ℕ)} {k : ℕ} {y : YardCounts} {e : EngineState} {ps : List ProbeState}
+pub way_end : {makes : Builder → Type 0} {all : List ProbeState} {o : Choices} {scene : SceneParts} {b : Output} {i end : ℕ} {w : Option (List ℕ)}
+    {k : ℕ} {y : YardCounts} {e : EngineState} {ps : List ProbeState}
     (v : Option (List ℕ)) (l : ℕ) (s : Status) → end ≤ i → end ≡ count_of o scene.passes → IsOnTheWay makes all o scene b i (output w k y) e ps → IsCounted y
     → Shows (probe_lines ps) w k v l s → Runs (command_parts all o scene) b (output v l y) s
 way_end {all = all} {o = o} {scene = scene} {b = b} {i = i} {w = w} {k = k} {y = y} {e = e} {ps = ps} v l s past count way counted

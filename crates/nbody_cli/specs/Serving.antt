@@ -208,7 +208,8 @@ other_yard_of _ w = w.locked
 -- A run of words: what it read and wrote, what the yard of its builder counted, how far it came, and the other yard is as it was, whatever the status.
 pub record Serves (probes : List ProbeState) (options : Option Choices) (before after : World) (answer : Status) : Type 0 where
   pub answers : Answers probes options before.ports after.ports answer
-  pub counts : Counts (published_by (wanted probes options answers.bytes).parts) (yard_of (chosen_builder options) before) (yard_of (chosen_builder options) after) answer
+  pub counts : Counts (published_by (wanted probes options answers.bytes).parts) (yard_of (chosen_builder options) before)
+      (yard_of (chosen_builder options) after) answer
   pub in_turn : InTurn (wanted probes options answers.bytes).parts (output_of before.ports (yard_of (chosen_builder options) before))
       (output_of after.ports (yard_of (chosen_builder options) after)) answer
   pub other_yard : other_yard_of (chosen_builder options) after ≡ other_yard_of (chosen_builder options) before
@@ -223,7 +224,8 @@ pub record ServesOptions (probes : List ProbeState) (o : Choices) (before after 
 -- ---- inside a run of options
 
 -- the engine and the passes of the scene whose frames are wanted: it is accepted, and the source was read to its end where the command reads it
-pub record IsOpened (probes : List ProbeState) (o : Choices) (left_before left_after : Option (List ℕ)) (e : EngineState) (passes : List (List Move)) : Type 0 where
+pub record IsOpened (probes : List ProbeState) (o : Choices) (left_before left_after : Option (List ℕ)) (e : EngineState)
+    (passes : List (List Move)) : Type 0 where
   pub bytes : List ℕ
   pub told : AreLeft left_before bytes
   pub end : IsTrue (reads_source o.command) → IsAtEnd left_after

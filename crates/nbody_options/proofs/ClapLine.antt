@@ -169,8 +169,15 @@ told_of names name value = (
 )
 
 option_is : {names : List Text} {name : Text}
-    → ((value : Text) → told_of names name value ≡ (Some (name, None), false, Some (name, Some value), false, Some (option_filled name),
-      Some (option_filled name), false))
+    → ((value : Text) → told_of names name value ≡ (
+      Some (name, None),
+      false,
+      Some (name, Some value),
+      false,
+      Some (option_filled name),
+      Some (option_filled name),
+      false,
+    ))
     → IsOption names name
 option_is told = record {
   word_long = ap (λ t. t.0) (told []);

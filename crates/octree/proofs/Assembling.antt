@@ -17,7 +17,8 @@ use Rattle.octree.proofs.Words.{at_past}
 use Rattle.octree.specs.ByKeys.{AreParts, IsAssembled, IsInSome, StandsByKeys}
 use Rattle.octree.specs.Growing.{AreFilled, ArePlaced, IsAboveBase, IsCopied, IsFreePlace, IsGrowing, IsMade, IsSource, IsWayMade, bases, cells_in}
 use Rattle.octree.specs.Stored.{IsCanonical, IsStored, Stored, root_word, word_count}
-use Rattle.tree_rule.proofs.Laws.{amid_same, bodies_of_stands, cell_reached, key_apart, one_key, place_kept, sound_of_stands, stands_empty, word_at_place, word_is, ACell, NoBody, OneBody}
+use Rattle.tree_rule.proofs.Laws.{amid_same, bodies_of_stands, cell_reached, key_apart, one_key, place_kept, sound_of_stands, stands_empty}
+use Rattle.tree_rule.proofs.Laws.{word_at_place, word_is, ACell, NoBody, OneBody}
 use Rattle.tree_rule.specs.Flat.{IsPlaceOf, IsShared, IsWordOf, StandsFor}
 use Rattle.tree_rule.specs.Sound.{HereAs}
 use Rattle.tree_rule.specs.Words.{HasBody, HasCell, at_of, body_word, cell_word, key_place}
@@ -139,7 +140,15 @@ module _ (sites : List Site) (parts : List Stored) (h : AreParts sites parts) wh
         level = u.0;
         shallow = elim (cases_lt u.0 21) [
           | inl l ↦ l
-          | inr l ↦ absurd (omega (arith, u.2, key-low (site_at sites one.one) u.0, pow8-mono 21 u.0 l, proper_less upper o.base p, real.3, pow8-mono real.0 21 (omega (arith, real.1))))
+          | inr l ↦ absurd (omega (
+            arith,
+            u.2,
+            key-low (site_at sites one.one) u.0,
+            pow8-mono 21 u.0 l,
+            proper_less upper o.base p,
+            real.3,
+            pow8-mono real.0 21 (omega (arith, real.1)),
+          ))
         ];
         sharers = more_so (λ n b.
             let level : b.1.0 ≡ u.0 = same_level (site_at sites n) (site_at sites one.one) b.1.0 u.0 (sym b.1.2 ∙ u.2) in
@@ -307,7 +316,8 @@ module _ (sites : List Site) (parts : List Stored) (order : AreInTreeOrder (base
         (subst (λ (y : ℕ). IsPlaceOf (at_of words) 0 1 (IsMade words) (k j) y) (f ∙ at_it) there) (h.of_keys i base_is.0) in
         let neither = before_apart (k i) (k j) (before_at (bases parts) order i j (omega arith) m) in
         let before = before_at (bases parts) order i j (omega arith) m in
-        neither.0 (subst (IsPrefix (k i)) (sym keys) (prefix_self (k i) (omega (arith, before.holds_one.0, prefix_low (8 * before.above + before.first) (k i) before.holds_one)))) in
+        neither.0 (subst (IsPrefix (k i)) (sym keys) (prefix_self (k i)
+        (omega (arith, before.holds_one.0, prefix_low (8 * before.above + before.first) (k i) before.holds_one)))) in
         copy.kept (slice_index places j) (place_inside words (k j) (slice_index places j) h.grown.long there) apart ∙ h.free j (omega arith) m
 
     -- the part is copied

@@ -1,5 +1,6 @@
 -- How the cells that can't be reached are found: those that can are marked, and the others listed.
-use Rattle.std.proofs.Common.{ℕ, ◌+◌, ◌<◌, ◌≡◌, ◌⊎◌, ◌↔◌, refl, sym, ◌∙◌, ap, subst, inl, inr, arith, Bool, true, false, List, [], ◌∷◌, ◌++◌, length, get_or, set}
+use Rattle.std.proofs.Common.{ℕ, ◌+◌, ◌<◌, ◌≡◌, ◌⊎◌, ◌↔◌, refl, sym, ◌∙◌, ap, subst, inl, inr, arith, Bool, true, false, List, [], ◌∷◌, ◌++◌}
+use Rattle.std.proofs.Common.{length, get_or, set}
 use Rattle.std.proofs.Common.{get_or-set_same, get_or-set_other, length-append, replicate}
 use Rattle.std.proofs.lemmas.Bool.{cases_Bool, cases_lt}
 use Rattle.std.proofs.lemmas.List.{get_or-replicate, get_or_past, length-replicate}
@@ -35,7 +36,8 @@ pub AreMarkedUpTo : Spot → ℕ → List Bool → List Bool → Type 0
 AreMarkedUpTo cell k before now = (d : ℕ) → IsMarked now d ↔ (IsMarked before d ⊎ ((d ≡ cell_at cell) ⊎ IsUnderFirst cell k d))
 
 -- before the first child
-pub marked_itself : (cell : Spot) (c : ℕ) (before now : List Bool) → c ≡ cell_at cell → c < length before → now ≡ set before c true → AreMarkedUpTo cell 0 before now
+pub marked_itself : (cell : Spot) (c : ℕ) (before now : List Bool) → c ≡ cell_at cell → c < length before → now ≡ set before c true
+    → AreMarkedUpTo cell 0 before now
 unfolding AreMarkedUpTo
 marked_itself cell c before now is within e d =
     elim (same_or_not d c) [

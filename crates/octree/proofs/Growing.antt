@@ -1,5 +1,6 @@
 -- Words into which cells and bodies are put.
-use Rattle.std.proofs.Common.{ℕ, zero, suc, ◌+◌, ◌*◌, ◌<◌, ◌≤◌, ◌≡◌, ◌≢◌, ◌⊎◌, ◌↔◌, refl, sym, ◌∙◌, ap, subst, inl, inr, arith, List, [], ◌∷◌, length, slice_set}
+use Rattle.std.proofs.Common.{ℕ, zero, suc, ◌+◌, ◌*◌, ◌<◌, ◌≤◌, ◌≡◌, ◌≢◌, ◌⊎◌, ◌↔◌, refl, sym, ◌∙◌, ap, subst, inl, inr, arith, List, [], ◌∷◌}
+use Rattle.std.proofs.Common.{length, slice_set}
 use Rattle.std.proofs.lemmas.Bool.{cases_lt}
 use Rattle.octant_code.specs.Points.{site_at}
 use Rattle.octant_code.specs.Space.{IsUnder, Site, key_of}
@@ -99,7 +100,8 @@ growing_of : (sites : List Site) (parts : List Stored) (words : List ℕ) (P B :
 growing_of sites parts words P B long small unlocked h cells =
     let bodies : (n : ℕ) → B n ↔ HasBody words n = body_reached (site_at sites) (at_of words) (at_of words 0) 1 P B h in
     let stands : StandsAmid (site_at sites) (at_of words) (at_of words 0) 1 (IsMade words) (HasBody words) (IsInSome parts) =
-    amid_same (site_at sites) (at_of words) (at_of words 0) 1 P (IsMade words) B (HasBody words) (IsInSome parts) (IsInSome parts) cells bodies (λ n v. v) h in (
+    amid_same (site_at sites) (at_of words) (at_of words 0) 1 P (IsMade words) B (HasBody words) (IsInSome parts) (IsInSome parts) cells bodies
+    (λ n v. v) h in (
       record {
         long = long;
         few = few_cells (site_at sites) (at_of words) (at_of words 0) 1 (cells_in words) (HasBody words) (IsInSome parts) stands small;

@@ -1,5 +1,6 @@
 -- A tree that was opened empty with all numbers, and shares of these.
-use Rattle.std.proofs.Common.{ℕ, ◌≡◌, ◌<◌, ◌≤◌, ◌↔◌, ◌++◌, zero, suc, sym, ◌∙◌, ap, subst, inl, inr, arith, All, List, [], ◌∷◌, Vec, Global, get_or, length, map}
+use Rattle.std.proofs.Common.{ℕ, ◌≡◌, ◌<◌, ◌≤◌, ◌↔◌, ◌++◌, zero, suc, sym, ◌∙◌, ap, subst, inl, inr, arith, All, List, [], ◌∷◌, Vec, Global, get_or}
+use Rattle.std.proofs.Common.{length, map}
 use Rattle.std.proofs.lemmas.Bool.{cases_lt}
 use Rattle.octant_code.specs.Space.{Site}
 use Rattle.bh_model.specs.Bodies.{IsIn, numbers}
@@ -27,7 +28,8 @@ opened_all o count empty todo x =
 pub can_merge_all : (sites : List Site) (t : SharedTree) (shares : List (Vec ℕ Global)) → AreShares (length sites) (map (λ s. s.items) shares)
     → t.opening.sites ≡ sites → at_of t.opening.words 0 ≡ 0 → t.opening.todo ≡ numbers (length sites) → All (λ s. CanMerge sites t s.items) shares
 can_merge_all sites t shares are points empty todo = λ k d less.
-    let part : (x : ℕ) → times x (get_or shares k d).items ≤ times_in_all x (map (λ s. s.items) shares) = λ x. part_of_all (λ (v : Vec ℕ Global). v.items) x k d shares less in
+    let part : (x : ℕ) → times x (get_or shares k d).items ≤ times_in_all x (map (λ s. s.items) shares) = λ x. part_of_all
+    (λ (v : Vec ℕ Global). v.items) x k d shares less in
     record {
       points = points;
       bodies = opened_all t.opening (length sites) empty todo;

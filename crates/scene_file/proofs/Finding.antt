@@ -129,7 +129,7 @@ other_here bodies i b s t within is told other before k less =
       | inr last ↦ λ e.
           let same : k ≡ i = omega arith in
           let at : b.at ≡ s = ap (λ (y : Body). y.at) (get_or_read bodies i b within is nobody) ∙ sym (site_is bodies i)
-            ∙ ap (λ n. site_at (sites_of bodies) n) (sym same) ∙ e in
+          ∙ ap (λ n. site_at (sites_of bodies) n) (sym same) ∙ e in
           let met : same_coordinates b.at s ≡ true = rw at (same_coordinates_refl s) in
           let both : true ≡ false = sym met ∙ sym told ∙ other in
           cc

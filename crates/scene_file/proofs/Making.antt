@@ -81,7 +81,7 @@ key_of_code code (suc level) small deep =
     let d : ℕ = code / 8 ^ (20 - level) in
     let next : 21 - level ≡ suc (20 - level) = omega arith in
     let above : code / 8 ^ (21 - level) ≡ d / 8 = ap (λ y. code / 8 ^ y) next ∙ ap (λ y. code / y) (pow-suc 8 (20 - level))
-      ∙ sym (div-div-eq-div-mul code (8 ^ (20 - level)) 8) in
+    ∙ sym (div-div-eq-div-mul code (8 ^ (20 - level)) 8) in
     let power : 8 ^ suc level ≡ 8 * 8 ^ level = pow-succ' 8 level in
     let same : 21 - suc level ≡ 20 - level = omega arith in
     let sum : 8 * (8 ^ level + d / 8) + d % 8 ≡ 8 * 8 ^ level + d = omega arith in
@@ -94,7 +94,7 @@ key_of_code code (suc level) small deep =
 one_code : (a b : ℕ) → a < 8 ^ 21 → b < 8 ^ 21 → site_of_code a ≡ site_of_code b → a ≡ b
 one_code a b a_small b_small same =
     let keys : 8 ^ 21 + a / 1 ≡ 8 ^ 21 + b / 1 = sym (key_of_code a 21 a_small (omega arith)) ∙ ap (λ s. key_of s 21) same
-      ∙ key_of_code b 21 b_small (omega arith) in
+    ∙ key_of_code b 21 b_small (omega arith) in
     omega (arith, keys)
 
 -- codes are codes of points
@@ -116,7 +116,7 @@ third_more code level less =
     let next : 3 * (21 - level) ≡ suc (suc (suc m)) = omega arith in
     let eight : 2 ^ suc (suc (suc m)) ≡ 2 ^ m * 8 = omega (arith, pow-suc 2 m, pow-suc 2 (suc m), pow-suc 2 (suc (suc m))) in
     let above : code / 2 ^ (3 * (21 - level)) ≡ code / 2 ^ m / 8 = ap (λ y. code / 2 ^ y) next ∙ ap (λ y. code / y) eight
-      ∙ sym (div-div-eq-div-mul code (2 ^ m) 8) in
+    ∙ sym (div-div-eq-div-mul code (2 ^ m) 8) in
     ap (λ y. every_third (level + 1) (code / 2 ^ y)) last ∙ ap (λ y. every_third y (code / 2 ^ m)) (add-one level)
     ∙ third-suc level (code / 2 ^ m) ∙ ap (λ y. 2 * every_third level y + code / 2 ^ m % 2) (sym above)
 
@@ -146,7 +146,7 @@ made-at (suc count) seed form i d less =
     elim (eq-or-lt_of_le (let h : i ≤ count = omega arith in h)) [
       | inr before ↦ get_or_append_left (made_bodies count seed form) (last ∷ []) d i (omega (arith, long)) ∙ made-at count seed form i d before
       | inl here ↦ rw here (ap (λ y. get_or (made_bodies count seed form ++ last ∷ []) y d) (sym long)
-        ∙ get_or-append_seam (made_bodies count seed form) last [] d)
+          ∙ get_or-append_seam (made_bodies count seed form) last [] d)
     ]
 
 -- the point of each number

@@ -26,8 +26,13 @@ use Rattle.scene_file.proofs.Shifts.{shifted-length, shifted_rule}
 -- bodies alone are a scene
 pub scene_none : (bodies : List Body) → AreBodies bodies → IsScene (record { bodies = bodies; passes = [] })
 scene_none bodies rule =
-    record { bodies = rule; passes = λ i less. absurd (omega arith); few_passes = omega arith; few_moves = omega arith;
-      in_cube = λ i d less. absurd (omega arith) }
+    record {
+      bodies = rule;
+      passes = λ i less. absurd (omega arith);
+      few_passes = omega arith;
+      few_moves = omega arith;
+      in_cube = λ i d less. absurd (omega arith);
+    }
 
 -- passes move bodies one after another
 pub after-append : (passes more : List (List Move)) (bodies : List Body) → after_passes (passes ++ more) bodies ≡ after_passes more (after_passes passes bodies)

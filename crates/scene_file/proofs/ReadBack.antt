@@ -392,7 +392,7 @@ moves_read (m ∷ ms) done rows number bodies passes pass few few_moves h =
 passes_read : (passes start : List (List Move)) (number : ℕ) (bodies : List Body) → IsScene (record { bodies = bodies; passes = start ++ passes })
     → AreInRanges passes
     → scene_after (passes_rows passes) number (record { bodies = bodies; passes = start; moves = [] }) ≡ Ok
-      (record { bodies = bodies; passes = start ++ passes })
+    (record { bodies = bodies; passes = start ++ passes })
 unfolding scene_after
 passes_read [] start number bodies scene h = rw (append-nil start) refl
 passes_read (p ∷ ps) start number bodies scene h =
@@ -417,7 +417,7 @@ moves_within scene rule =
     let inside = All-get_or (λ (moves : List Move). All (λ (m : Move). IsInCube m.to) moves) scene.passes i [] within rule.in_cube in
     All-from_get_or IsMoveInRanges (pass_at scene.passes i) no_move (λ j less.
     let known = All-get_or (λ (m : Move). m.body < length (after_passes (take i scene.passes) scene.bodies)) (pass_at scene.passes i) j no_move less
-      own.known in
+    own.known in
     let named : (move_at (pass_at scene.passes i) j).body < length scene.bodies = rw (after-length (take i scene.passes) scene.bodies) at known in
     let few = rule.bodies.few in
     let cube = All-get_or (λ (m : Move). IsInCube m.to) (pass_at scene.passes i) j no_move less inside in

@@ -33,8 +33,10 @@ octant_rivals v sites key level k mine others small r =
       all = λ n i e.
           let parts : 8 * key + k ≡ 8 * key_of (site n) level + octant_of (site n) level =
           e ∙ ap (key_of (site n)) (omega arith) ∙ key-suc (site n) level in
-          let cube : key ≡ key_of (site n) level = same_parent key (key_of (site n) level) k (octant_of (site n) level) small (octant-small (site n) level) parts in
-          let octant : k ≡ octant_of (site n) level = same_child key (key_of (site n) level) k (octant_of (site n) level) small (octant-small (site n) level) parts in
+          let cube : key ≡ key_of (site n) level = same_parent key (key_of (site n) level) k (octant_of (site n) level) small
+          (octant-small (site n) level) parts in
+          let octant : k ≡ octant_of (site n) level = same_child key (key_of (site n) level) k (octant_of (site n) level) small
+          (octant-small (site n) level) parts in
           elim (r.all n i cube) [
             | inl m ↦ inl (in_octant-keeps site level mine n k m (sym octant))
             | inr m ↦ inr (in_octant-keeps site level others n k m (sym octant))

@@ -1,5 +1,6 @@
 -- A private octree of the whole cube as the part from which a merge begins.
-use Rattle.std.proofs.Common.{ℕ, ◌-◌, ◌<◌, ◌≤◌, ◌≡◌, ◌↔◌, refl, sym, ◌∙◌, ap, subst, inl, inr, arith, Bool, true, false, not, eqb, eq-eqb, List, [], ◌∷◌, length}
+use Rattle.std.proofs.Common.{ℕ, ◌-◌, ◌<◌, ◌≤◌, ◌≡◌, ◌↔◌, refl, sym, ◌∙◌, ap, subst, inl, inr, arith, Bool, true, false, not, eqb, eq-eqb, List, []}
+use Rattle.std.proofs.Common.{◌∷◌, length}
 use Rattle.std.specs.List.{filter}
 use Rattle.std.proofs.lemmas.Bool.{cases_lt}
 use Rattle.octant_code.specs.declared.limits.TheConstants.{LEVELS}

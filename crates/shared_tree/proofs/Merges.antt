@@ -1,5 +1,6 @@
 -- The walk that merges below a shared cell, child by child.
-use Rattle.std.proofs.Common.{ℕ, ◌+◌, ◌-◌, ◌*◌, ◌^◌, ◌<◌, ◌≤◌, ◌≡◌, zero, suc, refl, sym, ◌∙◌, ap, subst, inl, inr, arith, List, [], ◌∷◌, ◌++◌, length, take, drop}
+use Rattle.std.proofs.Common.{ℕ, ◌+◌, ◌-◌, ◌*◌, ◌^◌, ◌<◌, ◌≤◌, ◌≡◌, zero, suc, refl, sym, ◌∙◌, ap, subst, inl, inr, arith, List, [], ◌∷◌, ◌++◌}
+use Rattle.std.proofs.Common.{length, take, drop}
 use Rattle.std.proofs.Common.{length-drop}
 use Rattle.std.proofs.Math.Seq.{take-add}
 use Rattle.std.proofs.Math.Nat.{add-mul, mul-add}
@@ -313,7 +314,8 @@ deeper_in v w words sites s n key d k spot next at top down free octant small wo
         bodies_in = at.part.bodies_in;
         under = λ m i.
             subst (λ (z : ℕ). 8 * key + k ≡ key_of (site_at sites m) z) (sym level)
-            (octant_key (site_at sites m) key spot.level k (at.part.under m i) (ap (λ (z : ℕ). octant_of (site_at sites z) spot.level) (only m i) ∙ sym octant));
+            (octant_key (site_at sites m) key spot.level k (at.part.under m i)
+            (ap (λ (z : ℕ). octant_of (site_at sites z) spot.level) (only m i) ∙ sym octant));
       };
       todo = λ x. subst (λ (z : List ℕ). times x (bodies_under s) ≤ times x z) (sym down.still.todo) (at.todo x);
       spot = below_spot words next d k small word lock (let a = down.below.cell.inside in let b = down.still.long in let c = at.long in omega arith);

@@ -233,7 +233,8 @@ before_next sites s other level k n M is = (
   λ b. elim (cases_lt (octant_of (site_at sites n) level) k) [
     | inl l ↦ inl (b.0, l)
     | inr g ↦ inr (subst (λ (l : List ℕ). IsIn l n) (sym is)
-        (in_octant-keeps (site_at sites) level (with_other other (bodies_under s)) n k b.0 (let l : octant_of (site_at sites n) level < k + 1 = b.1 in omega arith)))
+        (in_octant-keeps (site_at sites) level (with_other other (bodies_under s)) n k b.0
+        (let l : octant_of (site_at sites n) level < k + 1 = b.1 in omega arith)))
   ],
 )
 

@@ -19,7 +19,8 @@ use Rattle.tree_passes.specs.Looks.{Looked, Tells}
 use Rattle.tree_passes.specs.Making.{HasWritten}
 use Rattle.tree_passes.specs.Passes.{KnowsPlace}
 use Rattle.tree_passes.specs.Turns.{Descends, IsFound, IsInserted, IsStill, IsThere}
-use Rattle.tree_passes.proofs.Laws.{cell_instead, descends_from, found_learnt, inserted_from, inserted_published, place_below, place_still, still_learnt, still_on}
+use Rattle.tree_passes.proofs.Laws.{cell_instead, descends_from, found_learnt, inserted_from, inserted_published, place_below, place_still}
+use Rattle.tree_passes.proofs.Laws.{still_learnt, still_on}
 use Rattle.shared_tree.specs.declared.publisher.Spot.{Spot}
 use Rattle.shared_tree.specs.declared.descent.Turn.{Turn}
 use Rattle.shared_tree.specs.declared.descent.Turn.TheVariants as turn

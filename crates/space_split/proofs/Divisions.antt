@@ -52,7 +52,8 @@ octants_rise xs level key deep rising under i j d l m =
     omega (arith, shorter, ka, kb)
 
 -- the codes of an octant's cube are those of the cube with the octant
-pub child_codes : (codes : List ℕ) (most level : ℕ) (cube : Cube) (k : ℕ) → level < 21 → IsNonDecreasing codes → IsRange codes most level cube → most < cube.count
+pub child_codes : (codes : List ℕ) (most level : ℕ) (cube : Cube) (k : ℕ) → level < 21 → IsNonDecreasing codes → IsRange codes most level cube
+    → most < cube.count
     → take (octant_count (codes_of codes cube) level k) (drop (cube.start + earlier_count (codes_of codes cube) level k) codes)
     ≡ of_octant octant_of_code level k (codes_of codes cube)
 child_codes codes most level cube k deep rising range many =

@@ -25,7 +25,8 @@ unfolding numbers
 rank_none = refl
 
 -- one rank more
-pub rank_more : (ranks : List ℕ) (q n : ℕ) → n < 65536 → map body_of_rank ranks ≡ numbers n → map body_of_rank (ranks ++ ((q * 65536 + n) ∷ [])) ≡ numbers (n + 1)
+pub rank_more : (ranks : List ℕ) (q n : ℕ) → n < 65536 → map body_of_rank ranks ≡ numbers n
+    → map body_of_rank (ranks ++ ((q * 65536 + n) ∷ [])) ≡ numbers (n + 1)
 rank_more ranks q n few told =
     let own : (q * 65536 + n) % 65536 ≡ n = omega arith in
     map_push body_of_rank ranks (q * 65536 + n) ∙ ap (λ y. y ++ (body_of_rank (q * 65536 + n) ∷ [])) told ∙ ap (λ y. numbers n ++ (y ∷ [])) own

@@ -98,7 +98,8 @@ module _ (codes : List ℕ) (most level : ℕ) (cube : Cube) (range : IsRange co
 
 -- the cubes of the next level
 module _ (codes : List ℕ) (most level : ℕ) where
-  follow_all : (from to : ℕ) (cs : List Cube) → All (IsRange codes most level) cs → Follow from to cs → Follow from to (flat_map (division_of codes most level) cs)
+  follow_all : (from to : ℕ) (cs : List Cube) → All (IsRange codes most level) cs → Follow from to cs
+      → Follow from to (flat_map (division_of codes most level) cs)
   follow_all from to [] ranges h = h
   follow_all from to (c ∷ cs) ranges h =
       follow_append from (from + c.count) to (division_of codes most level c) (flat_map (division_of codes most level) cs)

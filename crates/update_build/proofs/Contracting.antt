@@ -399,8 +399,12 @@ module _ (sites : List Site) (mid after : List ℕ) (key place c w : ℕ) (h : A
     | inl e ↦ absurd (omega arith)
     | inr f ↦
         let zero_there = zeros f.octant f.small in
-        absurd (omega (arith, zero_there, alone_there (at_of mid) (at_of mid (child_place c f.octant)) (body_word n)
-          (λ d e. omega (arith, zero_there, e)) f.read))
+        absurd (omega (
+          arith,
+          zero_there,
+          alone_there (at_of mid) (at_of mid (child_place c f.octant)) (body_word n)
+              (λ d e. omega (arith, zero_there, e)) f.read,
+        ))
   ]
 
   one_below : (k x : ℕ) → k < 8 → at_of mid (child_place c k) ≡ body_word x
@@ -414,8 +418,12 @@ module _ (sites : List Site) (mid after : List ℕ) (key place c w : ℕ) (h : A
               omega (arith, word, alone_there (at_of mid) (at_of mid (child_place c f.octant)) (body_word n) (λ d g. omega (arith, word, g)) f.read)
           | inr e ↦
               let zero_there = zeros f.octant f.small e in
-              absurd (omega (arith, zero_there, alone_there (at_of mid) (at_of mid (child_place c f.octant)) (body_word n)
-                (λ d g. omega (arith, zero_there, g)) f.read))
+              absurd (omega (
+                arith,
+                zero_there,
+                alone_there (at_of mid) (at_of mid (child_place c f.octant)) (body_word n)
+                    (λ d g. omega (arith, zero_there, g)) f.read,
+              ))
         ]
       ]
 

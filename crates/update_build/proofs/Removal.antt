@@ -109,7 +109,7 @@ module _ (olds news : List Site) (words : List ℕ) (h : AreWordsOf olds words) 
   under_new : (n key i : ℕ) → times n (all_of items movers) ≡ 0 → IsLeafAt words key n i → IsUnder key (site_at news n)
   under_new n key i none leaf =
       let x = subst (λ (y : ℕ). IsWordOf (at_of words) (at_of words 0) 1 (HasCell words) key y) leaf.1
-        (word_at_place (at_of words) 0 1 (HasCell words) key i leaf.0) in
+      (word_at_place (at_of words) 0 1 (HasCell words) key i leaf.0) in
       let less : n < length olds = (h.bodies n).0 (h.stands.names_body key n x).0 in
       (keeps_so olds words h news n key i many leaf).0 (aside_stays olds news n items movers shares are (all n (omega arith)) none)
 

@@ -139,7 +139,7 @@ module _ (sites news : List Site) (before after bodies places : List ℕ) (h : A
           level = g.level;
           shallow = g.shallow;
           named = word_on (key_of (site n) g.level) (body_word n) f.place f.of_key f.holds
-            (body_aside n (key_of (site n) g.level) f.place b.1 (f.of_key, sym f.holds));
+              (body_aside n (key_of (site n) g.level) f.place b.1 (f.of_key, sym f.holds));
         };
     names_body = λ key n x. left n key x;
     shared = λ c p. subst (λ (u : ℕ). IsShared site V u) (sym (keys c)) (shared_more (λ n b. (h.bodies n).0 b) (h.stands.shared c p));

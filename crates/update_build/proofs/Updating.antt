@@ -183,7 +183,7 @@ module _ {olds news : List Site} {old tree : Stored} {shares lists : List (List 
 
   old_placed : ArePlaced (site_at olds) all
   old_placed = subst (λ (k : ℕ). ArePlaced (site_at olds) (numbers k)) taken.many
-    (placed_of_points olds (numbers (length olds)) taken.old_points (numbers_within (length olds)))
+      (placed_of_points olds (numbers (length olds)) taken.old_points (numbers_within (length olds)))
 
   new_placed : ArePlaced (site_at news) all
   new_placed = placed_of_points news all taken.new_points (numbers_within (length news))

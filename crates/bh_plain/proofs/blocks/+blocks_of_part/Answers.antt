@@ -33,7 +33,7 @@ blocks_of_part-requires t c =
     let site = site_at c.args.points.now in
     let part : c.deref.result.now ≡ in_octant site c.args.level c.loop-k.k c.args.bodies.now = c.deref.ensures.value ∙ c.in_ok-part.ensures in
     let rest : c.deref-in-loop-k.result.now ≡ in_octant site c.args.level c.loop-k.k c.args.others.now = c.deref-in-loop-k.ensures.value
-      ∙ c.in_ok-rest.ensures in (
+    ∙ c.in_ok-rest.ensures in (
       omega arith,
       (
         octants_within c.args.points.now c.args.level c.loop-k.k c.args.bodies.now c.deref.result.now (length c.args.points.now) part c.requires.within,

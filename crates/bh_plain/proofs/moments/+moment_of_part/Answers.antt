@@ -29,7 +29,7 @@ loop-k-init t c =
 -- where there are two bodies or more, the moment of the octants fits
 octants_fit : (t : ℕ) (c : After-is_empty t) → c.is_empty.result ≡ false → c.args.level < 21 → length c.args.bodies.now ≢ 1
     → FitsWords (moment (matter_by c.args.masses.now c.args.points.now) (λ n. get_or c.args.costs.now n 0)
-      (cell_of (octant_trees (site_at c.args.points.now) c.args.level c.args.bodies.now)))
+    (cell_of (octant_trees (site_at c.args.points.now) c.args.level c.args.bodies.now)))
 octants_fit t c test deep many =
     subst FitsWords (ap (moment (matter_by c.args.masses.now c.args.points.now) (λ n. get_or c.args.costs.now n 0))
     (split_tree (site_at c.args.points.now) c.args.level c.args.bodies.now deep

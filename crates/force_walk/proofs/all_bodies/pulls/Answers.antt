@@ -33,7 +33,8 @@ listed : (g : _) (c : After-as_slice g)
     → ByPlace (λ (z : Vec ℕ Global) (l : Vec Pull Global). l.items ≡ map (walk_of c.args.law.now (matter_of c.args.bodies.now) c.in_ok-table.table) z.items)
     c.args.zones.now c.as_slice.result.now
 listed g c =
-    subst (ByPlace (λ (z : Vec ℕ Global) (l : Vec Pull Global). l.items ≡ map (walk_of c.args.law.now (matter_of c.args.bodies.now) c.in_ok-table.table) z.items)
+    subst (ByPlace (λ (z : Vec ℕ Global) (l : Vec Pull Global). l.items ≡ map
+    (walk_of c.args.law.now (matter_of c.args.bodies.now) c.in_ok-table.table) z.items)
     c.args.zones.now) (sym c.as_slice.ensures.value) c.in_ok-lists.ensures
 
 pub place_all-requires-clause-inside : goal.place_all-requires-clause-inside

@@ -10,5 +10,6 @@ returns-in-Err g c =
     let number : c.frame.inside.step ≡ c.args.engine.now.step = ap (λ (f : FrameFigures). f.step) c.frame.view_is
     ∙ ap (λ (f : FrameFigures). f.step) c.requires.figures in
     let steps = ap (λ (o : Choices). o.steps) c.options.view_is in
-    let last : c.args.engine.now.step + 1 ≡ c.args.options.now.steps = omega (arith, number, steps, c.if-frame-options.true, c.options.invariant.steps_are_positive) in
+    let last : c.args.engine.now.step + 1 ≡ c.args.options.now.steps = omega
+    (arith, number, steps, c.if-frame-options.true, c.options.invariant.steps_are_positive) in
     last_shown c.args.options.now c.args.engine.now _ _ _ _ status.Write last (c.in-Err.ensures.cause.failed, c.in-Err.ensures.text)

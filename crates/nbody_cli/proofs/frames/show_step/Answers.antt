@@ -12,7 +12,8 @@ use Rattle.nbody_cli.proofs.frames.show_step.Goals as goal
 pub returns-in-Ok-clause-shows : goal.returns-in-Ok-clause-shows
 returns-in-Ok-clause-shows g c =
     let probes : List ProbeState =
-    map (λ b. record { kind = (goal.Probe-dyn g (b.vtable, b.value)).kind b.value; state = (goal.Probe-dyn g (b.vtable, b.value)).state b.value }) c.args.probes.now.items in
+    map (λ b. record { kind = (goal.Probe-dyn g (b.vtable, b.value)).kind b.value; state = (goal.Probe-dyn g (b.vtable, b.value)).state b.value })
+    c.args.probes.now.items in
     let P : EngineState → FrameFigures
     → Type 0 = λ e f. Shows (lines_text (frame_lines e) ++ lines_at f probes) (g.K.Sink.written c.args.sink.now) (g.K.Sink.faults c.args.sink.now)
     (g.K.Sink.written c.show_frame.new.sink) (g.K.Sink.faults c.show_frame.new.sink) c.show_frame.result in

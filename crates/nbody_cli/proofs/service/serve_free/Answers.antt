@@ -18,7 +18,10 @@ pub returns-clause-serves : goal.returns-clause-serves
 returns-clause-serves g c =
     let yard = c.args.free.now in
     let counted : IsCounted yard = record { published = omega arith; changes = omega arith } in
-    let probes : List ProbeState = map (λ b. record { kind = (goal.Probe-dyn g (b.vtable, b.value)).kind b.value; state = (goal.Probe-dyn g (b.vtable, b.value)).state b.value }) c.args.probes.items in
+    let probes : List ProbeState = map (λ b. record {
+      kind = (goal.Probe-dyn g (b.vtable, b.value)).kind b.value;
+      state = (goal.Probe-dyn g (b.vtable, b.value)).state b.value;
+    }) c.args.probes.items in
     let parts : List Part = command_parts probes c.args.options.now (record { bodies = c.in-Ok.opened.0.bodies; passes = c.in-Ok.opened.1 }) in
     let ran = subst (λ k. Runs parts (output (g.K.Sink.written k) (g.K.Sink.faults k) yard)
     (output (g.K.Sink.written c.run_free.new.sink) (g.K.Sink.faults c.run_free.new.sink) c.run_free.new.free) c.run_free.result) c.in-Ok.ensures.silent

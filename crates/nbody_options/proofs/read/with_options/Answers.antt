@@ -29,4 +29,4 @@ loop-name-preserved c =
 pub returns : goal.returns
 returns c =
     c.loop-name.invariant ∙ ap (λ ns. with_options (app_of c.args.line) (map (λ s. s.now) ns))
-      (take_all c.loop-name.name-index c.args.names.now c.loop-name-test.false)
+    (take_all c.loop-name.name-index c.args.names.now c.loop-name-test.false)

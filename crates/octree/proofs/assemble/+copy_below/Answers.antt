@@ -1,5 +1,6 @@
 use Rattle.std.proofs.Common.{ℕ, List, arith, refl, true, false, ◌≡◌, ◌+◌, ◌*◌, ◌∙◌, ap, slice_set, subst, sym}
-use Rattle.octree.proofs.Copying.{AreChildrenCopied, body_copied, cell_has, cell_positive, cell_shallow, cell_shared, child_free, child_source, children_all, children_more}
+use Rattle.octree.proofs.Copying.{AreChildrenCopied, body_copied, cell_has, cell_positive, cell_shallow, cell_shared, child_free, child_source}
+use Rattle.octree.proofs.Copying.{children_all, children_more}
 use Rattle.octree.proofs.Copying.{children_none, none_copied, word_copied}
 use Rattle.octree.proofs.ReadWords.{word_small}
 use Rattle.octree.specs.Growing.{IsCopied, IsFreePlace, IsSource}
@@ -46,11 +47,13 @@ named_by-requires t c =
 
 pub put_cell-requires-clause-shared : goal.put_cell-requires-clause-shared
 put_cell-requires-clause-shared t c =
-    cell_shared c.args.points.now c.args.parts.now c.args.from.now c.args.key c.args.word c.in-Cell.cell c.held-held.ensures.rule c.requires.source c.in-Cell.ensures
+    cell_shared c.args.points.now c.args.parts.now c.args.from.now c.args.key c.args.word c.in-Cell.cell c.held-held.ensures.rule c.requires.source
+    c.in-Cell.ensures
 
 pub loop-k-init : goal.loop-k-init
 loop-k-init t c =
-    children_none c.args.points.now c.args.parts.now c.args.from.now c.args.key c.args.word c.in-Cell.cell c.held-held.ensures.rule c.requires.source c.in-Cell.ensures
+    children_none c.args.points.now c.args.parts.now c.args.from.now c.args.key c.args.word c.in-Cell.cell c.held-held.ensures.rule c.requires.source
+    c.in-Cell.ensures
     c.args.words.now.items c.args.place c.in_ok-copy-in-Cell.copy c.put_cell.new.words.items c.requires.growing c.in_ok-copy-in-Cell.ensures
 
 pub word_at-child-requires : goal.word_at-child-requires
@@ -89,7 +92,8 @@ loop-k-preserved t c =
     elim c.if-names_cell.branch [
       | then-names_cell+in_ok-copy_below-in-Cell w ↦
           rw w.words-is (child_more t d _
-          (subst (λ (y : ℕ). IsCopied c.args.points.now c.args.parts.now c.args.from.now y c.word_at-child.result c.loop-k.words.items w.copy_below.new.words.items c.place_of_child-there.result)
+          (subst (λ (y : ℕ). IsCopied c.args.points.now c.args.parts.now c.args.from.now y c.word_at-child.result c.loop-k.words.items
+          w.copy_below.new.words.items c.place_of_child-there.result)
           (ap (λ y. 8 * c.args.key + y) w.from.ensures) w.in_ok-copy_below-in-Cell.ensures))
       | else-names_cell w ↦
           rw w.words-is (child_more t d _
@@ -103,11 +107,13 @@ returns-in-Nothing t c = none_copied c.args.points.now c.args.parts.now c.args.f
 pub returns-in-Body : goal.returns-in-Body
 returns-in-Body t c =
     let word : c.args.word ≡ c.word_of_body.result = c.in-Body.ensures ∙ sym c.word_of_body.ensures in
-    subst (λ (y : ℕ). IsCopied c.args.points.now c.args.parts.now c.args.from.now c.args.key c.args.word c.args.words.now.items (slice_set c.args.words.now.items c.args.place y) c.args.place) word
+    subst (λ (y : ℕ). IsCopied c.args.points.now c.args.parts.now c.args.from.now c.args.key c.args.word c.args.words.now.items
+    (slice_set c.args.words.now.items c.args.place y) c.args.place) word
     (body_copied c.args.points.now c.args.parts.now c.args.from.now _ _ _ c.in-Body.n _ c.requires.growing c.requires.place c.requires.source c.in-Body.ensures)
 
 pub returns-after-loop-k : goal.returns-after-loop-k
 returns-after-loop-k t c =
     children_all c.args.points.now c.args.parts.now c.args.from.now c.args.key c.args.word c.in-Cell.cell c.held-held.ensures.rule
     c.requires.source c.in-Cell.ensures c.args.words.now.items c.args.place c.in_ok-copy-in-Cell.copy c.loop-k.words.items
-    (subst (λ (y : ℕ). AreChildrenCopied c.args.points.now c.args.parts.now c.args.from.now c.args.key c.in-Cell.cell c.args.words.now.items c.loop-k.words.items c.args.place c.in_ok-copy-in-Cell.copy y) (omega arith) c.loop-k.invariant)
+    (subst (λ (y : ℕ). AreChildrenCopied c.args.points.now c.args.parts.now c.args.from.now c.args.key c.in-Cell.cell c.args.words.now.items
+    c.loop-k.words.items c.args.place c.in_ok-copy-in-Cell.copy y) (omega arith) c.loop-k.invariant)

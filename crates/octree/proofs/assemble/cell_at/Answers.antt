@@ -13,7 +13,11 @@ read c = get_or_read c.args.words.now.items c.args.place c.index.result.now
 
 pub named_by-requires : goal.named_by-requires
 named_by-requires c =
-    omega (arith, read (goal.at.named_by-requires c).After-index, there_small c.args.points.now c.args.parts.now c.args.words.now.items c.args.key c.args.place c.requires.growing c.requires.bare c.requires.place)
+    omega (
+      arith,
+      read (goal.at.named_by-requires c).After-index,
+      there_small c.args.points.now c.args.parts.now c.args.words.now.items c.args.key c.args.place c.requires.growing c.requires.bare c.requires.place,
+    )
 
 pub put_cell-requires-clause-place : goal.put_cell-requires-clause-place
 put_cell-requires-clause-place c =

@@ -5,8 +5,10 @@ use Rattle.octree.proofs.assemble.copy_parts.Goals as goal
 
 pub loop-i-init : goal.loop-i-init
 loop-i-init c =
-    subst (λ (l : List ℕ). AreFilled c.args.points.now c.args.parts.now l c.args.places.now (cells_in c.args.words.now.items) 0) (sym c.in_ok-reserve.ensures.items)
-    (filled_none c.args.points.now c.args.parts.now c.requires.parts.order c.args.words.now.items c.args.places.now (length c.args.parts.now) refl c.requires.placed)
+    subst (λ (l : List ℕ). AreFilled c.args.points.now c.args.parts.now l c.args.places.now (cells_in c.args.words.now.items) 0)
+    (sym c.in_ok-reserve.ensures.items)
+    (filled_none c.args.points.now c.args.parts.now c.requires.parts.order c.args.words.now.items c.args.places.now (length c.args.parts.now) refl
+    c.requires.placed)
 
 pub copy_below-requires-clause-source : goal.copy_below-requires-clause-source
 copy_below-requires-clause-source c =

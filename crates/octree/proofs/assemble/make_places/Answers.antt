@@ -23,13 +23,16 @@ place_below-requires-clause-shared c =
 pub loop-part-preserved : goal.loop-part-preserved
 loop-part-preserved c =
     let o = c.part-item.result in
-    subst (λ (l : List ℕ). ArePlaced c.args.points.now c.args.parts.now c.place_below.new.words.items l (c.loop-part.part-index + 1)) (sym c.in_ok-push.ensures.items)
+    subst (λ (l : List ℕ). ArePlaced c.args.points.now c.args.parts.now c.place_below.new.words.items l (c.loop-part.part-index + 1))
+    (sym c.in_ok-push.ensures.items)
     (placed_more c.args.points.now c.args.parts.now c.loop-part.words.items c.place_below.new.words.items c.loop-part.places.items c.loop-part.part-index
     c.in_ok-place.place o (item_at c.args.parts.now c.loop-part.part-index o c.loop-part-test.true c.part-item.is) c.loop-part.invariant
-    (subst (λ (y : ℕ). IsWayMade c.args.points.now c.args.parts.now c.loop-part.words.items c.place_below.new.words.items y c.in_ok-place.place) c.base.ensures.value
+    (subst (λ (y : ℕ). IsWayMade c.args.points.now c.args.parts.now c.loop-part.words.items c.place_below.new.words.items y c.in_ok-place.place)
+    c.base.ensures.value
     c.in_ok-place.ensures))
 
 pub returns : goal.returns
 returns c =
-    subst (λ (y : ℕ). ArePlaced c.args.points.now c.args.parts.now c.loop-part.words.items c.loop-part.places.items y) (omega (arith, c.loop-part-test.false, c.loop-part.auto.part-index-end))
+    subst (λ (y : ℕ). ArePlaced c.args.points.now c.args.parts.now c.loop-part.words.items c.loop-part.places.items y)
+    (omega (arith, c.loop-part-test.false, c.loop-part.auto.part-index-end))
     c.loop-part.invariant

@@ -43,7 +43,8 @@ work_shares-requires-clause-parted g c = λ κ within x.
 pub close-octree-requires-clause-all : goal.close-octree-requires-clause-all
 close-octree-requires-clause-all g c =
     let count = length (arc_value c.args.points.now) in
-    put_entrusted count c.in_ok-tree.tree (MayPublish c.deref-3.result.now) (map (λ s. s.items) c.args.shares.now) c.work_shares.new.pass c.requires c.in_ok-work_shares.ensures
+    put_entrusted count c.in_ok-tree.tree (MayPublish c.deref-3.result.now) (map (λ s. s.items) c.args.shares.now) c.work_shares.new.pass c.requires
+    c.in_ok-work_shares.ensures
     c.in_ok-tree.tree.opening.todo (c.in_ok-tree.ensures.todo ∙ listed g (goal.at.close-octree-requires-clause-all g c).After-deref-2)
 
 pub returns-clause-tree : goal.returns-clause-tree
@@ -69,7 +70,8 @@ returns-clause-published g c =
     ∙ ap (risen c.args.yard.now.published) count
 
 -- how often the workers published
-within : (g : Over) (c : In_ok-work_shares g) → IsWithinBlocks (arc_value c.args.points.now) (map (λ s. s.items) c.args.shares.now) c.work_shares.new.pass.changes
+within : (g : Over) (c : In_ok-work_shares g) → IsWithinBlocks (arc_value c.args.points.now) (map (λ s. s.items) c.args.shares.now)
+    c.work_shares.new.pass.changes
 within g c =
     let shares = map (λ s. s.items) c.args.shares.now in
     let sum = c.work_shares.new.pass.changes in

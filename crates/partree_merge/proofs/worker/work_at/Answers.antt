@@ -33,7 +33,8 @@ returns-clause-most g c =
     let share = c.args.share.now in
     let bodies = all_bodies c.args.tree.now.opening in
     let own = order (tree_of c.fill.new.own) in
-    let same : blocks (site_at c.args.tree.now.opening.sites) own (others_among bodies own) ≡ blocks (site_at c.args.points.now) share (others_among bodies share) =
+    let same : blocks (site_at c.args.tree.now.opening.sites) own (others_among bodies own) ≡ blocks (site_at c.args.points.now) share
+    (others_among bodies share) =
     ap (λ (s : List Site). blocks (site_at s) own (others_among bodies own)) (sym c.requires.points)
     ∙ blocks_of_order (site_at c.args.points.now) bodies share own (ordered g (goal.at.returns-clause-most g c).After-merge) in
     omega (arith, c.merge.ensures.most, same)

@@ -44,7 +44,8 @@ put_over-requires-clause-there g c =
 
 pub put_over-requires-clause-ready : goal.put_over-requires-clause-ready
 put_over-requires-clause-ready g c =
-    ready_still _ _ _ _ (other_still _ _ _ _ _ (other g (goal.at.put_over-requires-clause-ready g c).After-publish-found (λ e. omega (arith, e, c.in-Body.ensures))))
+    ready_still _ _ _ _ (other_still _ _ _ _ _ (other g (goal.at.put_over-requires-clause-ready g c).After-publish-found
+    (λ e. omega (arith, e, c.in-Body.ensures))))
     c.requires.ready
 
 pub returns-in-Body-clause-turn : goal.returns-in-Body-clause-turn

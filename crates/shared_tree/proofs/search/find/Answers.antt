@@ -16,7 +16,8 @@ use Rattle.shared_tree.proofs.search.find.Given.{Over}
 use Rattle.shared_tree.proofs.search.find.Goals as goal
 
 -- what the load told
-sought : (g : Over) (c : After-load g) → Sought c.loop-level.pass.me.0 c.loop-level.word (key_of c.args.p c.loop-level.level) c.load.result c.args.p c.load.new.pass.me.0
+sought : (g : Over) (c : After-load g) → Sought c.loop-level.pass.me.0 c.loop-level.word (key_of c.args.p c.loop-level.level) c.load.result c.args.p
+    c.load.new.pass.me.0
 sought g c = c.load.ensures.sought _ c.loop-level.invariant.4
 
 -- the body is one of the points

@@ -18,4 +18,5 @@ loop-n-preserved c =
 pub returns : goal.returns
 returns c =
     c.loop-n.invariant
-    ∙ ap (λ k. map (λ q. key_of (site_at c.args.points.now q) 21) (numbers k)) (omega (arith, c.loop-n-test.false, c.loop-n.auto.n-end, c.len-n-end.ensures.value))
+    ∙ ap (λ k. map (λ q. key_of (site_at c.args.points.now q) 21) (numbers k))
+    (omega (arith, c.loop-n-test.false, c.loop-n.auto.n-end, c.len-n-end.ensures.value))

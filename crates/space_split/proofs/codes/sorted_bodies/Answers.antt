@@ -21,7 +21,8 @@ own g c = c.in_ok-codes.ensures
 
 -- as many as the points
 many : (g : Over) (c : After-deref-3 g) → length c.in_ok-codes.codes.items ≡ length c.args.points.now
-many g c = ap length (own g c) ∙ length-map (numbers (length c.args.points.now)) (λ n. key_of (site_at c.args.points.now n) 21) ∙ length_numbers (length c.args.points.now)
+many g c = ap length (own g c) ∙ length-map (numbers (length c.args.points.now)) (λ n. key_of (site_at c.args.points.now n) 21)
+    ∙ length_numbers (length c.args.points.now)
 
 -- the ranks are those of all bodies
 told : (g : Over) (c : After-deref-3 g) → map body_of_rank c.in_ok-ranks.ranks.items ≡ numbers (length c.args.points.now)
@@ -56,7 +57,8 @@ returns g c =
     let ranks = c.deref-3.result.now in
     let there : c.in_ok-bodies.bodies.items ≡ map (λ r. coded_of site (body_of_rank r)) ranks =
     c.in_ok-bodies.ensures
-    ∙ coded_there n c.in_ok-ranks.ranks.items ranks (told g at) (moved g at) site c.deref-2.result.now ranks (c.deref-2.ensures.value ∙ own g at) (known g at) in
+    ∙ coded_there n c.in_ok-ranks.ranks.items ranks (told g at) (moved g at) site c.deref-2.result.now ranks (c.deref-2.ensures.value ∙ own g at)
+    (known g at) in
     let first : IsPermutation (map (coded_of site) (numbers n)) c.in_ok-bodies.bodies.items =
     subst (IsPermutation (map (coded_of site) (numbers n))) (sym there)
     (coded_moved n c.in_ok-ranks.ranks.items ranks (told g at) (moved g at) site) in

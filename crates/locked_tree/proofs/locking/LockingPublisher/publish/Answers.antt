@@ -2,7 +2,8 @@ use Rattle.std.proofs.Common.{◌∙◌, ℕ, [], ◌∷◌, ap, subst}
 use Rattle.tree_passes.specs.Counting.{Has}
 use Rattle.tree_passes.specs.Plays.{LookedUnder}
 use Rattle.tree_passes.proofs.Laws.{place_still}
-use Rattle.locked_tree.proofs.Publishes.{has_found, has_published, loaded_under, lock_held, lock_of, lock_still, long_still, place_locked, put_parts, ready_under, still_under, unlocked_parts}
+use Rattle.locked_tree.proofs.Publishes.{has_found, has_published, loaded_under, lock_held, lock_of, lock_still, long_still, place_locked}
+use Rattle.locked_tree.proofs.Publishes.{put_parts, ready_under, still_under, unlocked_parts}
 use Rattle.locked_tree.proofs.locking.LockingPublisher.publish.Given.{Over}
 use Rattle.locked_tree.proofs.locking.LockingPublisher.publish.Goals.{After-load_locked-found}
 use Rattle.locked_tree.proofs.locking.LockingPublisher.publish.Goals as goal
@@ -43,7 +44,8 @@ pub returns-then-found-old-clause-miss : goal.returns-then-found-old-clause-miss
 returns-then-found-old-clause-miss g c = λ apart key known.
     has_found c.args.pass.now.me.0 c.take_lock.new.pass.me.0 c.load_locked-found.new.pass.me.0 c.args.spot.lock c.args.spot.word key
     c.load_locked-found.result c.take_lock.ensures.taken c.requires.no_lock
-    (c.load_locked-found.ensures.looked key (place_locked c.args.pass.now.me.0 c.take_lock.new.pass.me.0 (c.args.spot.lock ∷ []) _ _ c.take_lock.ensures.taken known))
+    (c.load_locked-found.ensures.looked key (place_locked c.args.pass.now.me.0 c.take_lock.new.pass.me.0 (c.args.spot.lock ∷ []) _ _
+    c.take_lock.ensures.taken known))
     c.unlock.new.pass.me.0 c.unlock.ensures.free
 
 pub store_locked-requires-clause-ready : goal.store_locked-requires-clause-ready

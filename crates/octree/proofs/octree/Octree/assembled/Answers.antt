@@ -11,7 +11,8 @@ make_places-requires-clause-growing c =
     let is : vec_len c.resize.new.self ≡ length words = c.resize.new.self.ok.0 in
     (growing_none c.args.points.now c.args.parts.now words (bodies_few c.args.points.now c.args.parts.now c.requires.parts c.len-rule.ensures.rule)
     (omega (arith, is, c.in_ok-resize.ensures.len, c.words_of_cells-2.ensures))
-    (all_zero words (λ i l. c.in_ok-resize.ensures.by_index.1 i 0 refl (omega (arith, c.in_ok-words.ensures.len)) (omega (arith, l, is, c.in_ok-resize.ensures.len))))).0
+    (all_zero words (λ i l. c.in_ok-resize.ensures.by_index.1 i 0 refl (omega (arith, c.in_ok-words.ensures.len))
+    (omega (arith, l, is, c.in_ok-resize.ensures.len))))).0
 
 pub invariant_of-result : goal.invariant_of-result
 invariant_of-result c =

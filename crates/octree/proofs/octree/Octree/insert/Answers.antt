@@ -89,7 +89,8 @@ pub part_two-next-requires-clause-pair : goal.part_two-next-requires-clause-pair
 part_two-next-requires-clause-pair c =
     let d = goal.at.part_two-next-requires-clause-pair c in
     let end = c.find_place-end in
-    body_case _ _ _ _ _ _ _ (can d.After-find_place-end) end.ensures.there (body_end d.In-Some) end.ensures.shallow (c.key_at.ensures ∙ ap (λ s. key_of s end.result.level) c.at.ensures.value)
+    body_case _ _ _ _ _ _ _ (can d.After-find_place-end) end.ensures.there (body_end d.In-Some) end.ensures.shallow
+    (c.key_at.ensures ∙ ap (λ s. key_of s end.result.level) c.at.ensures.value)
 
 pub invariant_of-self-in-Some : goal.invariant_of-self-in-Some
 invariant_of-self-in-Some c = ((some_done c).stored, omega (arith, c.self.invariant.1, c.part_two-next.ensures.room))

@@ -5,4 +5,5 @@ use Rattle.octree.proofs.octree.Octree.root.Goals as goal
 
 pub node_of-requires : goal.node_of-requires
 node_of-requires c =
-    read_small c.args.self.now _ 0 c.index.result.now c.self.view_is c.self.invariant.0 (omega (arith, c.self.invariant.0.long)) (Here (at_of c.args.self.now.words 0) refl) c.index.ensures
+    read_small c.args.self.now _ 0 c.index.result.now c.self.view_is c.self.invariant.0 (omega (arith, c.self.invariant.0.long))
+    (Here (at_of c.args.self.now.words 0) refl) c.index.ensures

@@ -24,5 +24,5 @@ invariant_of-self-2 c =
     let differ = c.if-index-pass.false in
     let other : (get_or fields.named.items move.body 0 == pass) ≡ false = grind (arith, nat_tests) in
     passing_step (record { bodies = fields.bodies.items; passes = passes; moves = fields.moves.items }) fields.present.items _ fields.named.items
-      fields.count move
+    fields.count move
     c.push.new.self.items pass c.self.invariant c.in-Ok.ensures.items is (omega arith) within other c.requires

@@ -24,8 +24,13 @@ pub settle-requires-clause-known : goal.settle-requires-clause-known
 settle-requires-clause-known c =
     let rule = c.self.invariant in
     let is = after (goal.at.settle-requires-clause-known c).After-moved_list-present in
-    rw (c.deref-3.ensures.value, c.deref-2.ensures.value, is, shifted-length c.self.inside.moves.items c.self.inside.present.items,
-      here_long _ _ _ _ _ rule) rule.known
+    rw (
+      c.deref-3.ensures.value,
+      c.deref-2.ensures.value,
+      is,
+      shifted-length c.self.inside.moves.items c.self.inside.present.items,
+      here_long _ _ _ _ _ rule,
+    ) rule.known
 
 pub settle-requires-clause-inside : goal.settle-requires-clause-inside
 settle-requires-clause-inside c =
@@ -87,11 +92,14 @@ returns c =
     let many = c.len.ensures in
     let below = c.if-len.false in
     let room : length passes < 1024 = omega arith in
-    let same : pass_more so_far ≡ record { bodies = fields.bodies.items; passes = map (λ (v : Vec Move Global). v.items) c.push.new.self.items;
-      moves = c.new.result.items } =
+    let same : pass_more so_far ≡ record {
+      bodies = fields.bodies.items;
+      passes = map (λ (v : Vec Move Global). v.items) c.push.new.self.items;
+      moves = c.new.result.items;
+    } =
     rw (c.in-Ok.ensures.items, map-append (λ (v : Vec Move Global). v.items) fields.passes.items (fields.moves ∷ []), c.new.ensures.items) refl in
     ap (λ (s : SoFar). with_pass c.args.number s) (sym c.self.view_is)
     ∙ pass_ok c.args.number so_far fields.present.items c.moved_list-present.result.items (λ q. hash.get nat_eq fields.numbers q) fields.named.items
-      fields.count
+    fields.count
     rule is room (found_apart c.moved_list-present.result.items (λ q. hash.get nat_eq c.settle.new.numbers q) found)
     ∙ ap Ok same
