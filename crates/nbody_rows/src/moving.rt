@@ -87,6 +87,11 @@ fn moves_that_are_refused(rt: HostRuntime) -> Result<(), Fail> {
     for (line, scene, text) in rows {
         gives(&rt, line, scene, Status::Scene, text)?;
     }
+    Ok(())
+}
+
+#[test]
+fn a_pass_too_many_is_refused(rt: HostRuntime) -> Result<(), Fail> {
     let mut many: Vec<u8> = Vec::new(rt.alloc());
     for _ in 0..1025 {
         many.extend_from_slice(b"pass\n")?;

@@ -111,47 +111,28 @@ fn momentum_sums_up_the_pushes(rt: HostRuntime) {
 #[test]
 fn sums_of_pushes_stay_within_their_bounds(rt: HostRuntime) {
     let mut probe = Momentum::new();
-    show(
-        &rt,
-        &mut probe,
-        &frame(0, 0, 0, GREATEST_PUSH, -GREATEST_PUSH),
-        64,
-    );
-    assert!(rt;
-        tells(
-            &rt,
-            rt.alloc(),
-            &probe,
-            "momentum frames 64 push 85070591730234615865843651857942052800 -85070591730234615865843651857942052800 -64"
-        )
-    );
-    show(&rt, &mut probe, &frame(0, 0, 0, 64, -64), 1);
-    assert!(rt;
-        tells(
-            &rt,
-            rt.alloc(),
-            &probe,
-            "momentum frames 65 push 85070591730234615865843651857942052864 -85070591730234615865843651857942052864 -65"
-        )
-    );
-    show(&rt, &mut probe, &frame(0, 0, 0, 1, -1), 1);
-    assert!(rt;
-        tells(
-            &rt,
-            rt.alloc(),
-            &probe,
-            "momentum frames 66 push 85070591730234615865843651857942052864 -85070591730234615865843651857942052864 -66"
-        )
-    );
-    show(&rt, &mut probe, &frame(0, 0, 0, -2, 3), 1);
-    assert!(rt;
-        tells(
-            &rt,
-            rt.alloc(),
-            &probe,
-            "momentum frames 67 push 85070591730234615865843651857942052862 -85070591730234615865843651857942052861 -67"
-        )
-    );
+    let rows = [
+        (
+            (GREATEST_PUSH, -GREATEST_PUSH, 64),
+            "momentum frames 64 push 85070591730234615865843651857942052800 -85070591730234615865843651857942052800 -64",
+        ),
+        (
+            (64, -64, 1),
+            "momentum frames 65 push 85070591730234615865843651857942052864 -85070591730234615865843651857942052864 -65",
+        ),
+        (
+            (1, -1, 1),
+            "momentum frames 66 push 85070591730234615865843651857942052864 -85070591730234615865843651857942052864 -66",
+        ),
+        (
+            (-2, 3, 1),
+            "momentum frames 67 push 85070591730234615865843651857942052862 -85070591730234615865843651857942052861 -67",
+        ),
+    ];
+    for ((x, y, times), line) in rows {
+        show(&rt, &mut probe, &frame(0, 0, 0, x, y), times);
+        assert!(rt; tells(&rt, rt.alloc(), &probe, line));
+    }
 }
 
 #[test]
