@@ -5,3 +5,4 @@ pub mod Short
 pub mod Cubes
 pub mod Placed
 pub mod Views
+pub mod Parts

@@ -11,7 +11,7 @@ ghost use Rattle.scene_file.specs.Bodies.{sites_of};
 
 use crate::lay::flat_table;
 use crate::least::least_distances;
-use crate::workers::work_zones;
+use crate::workers::{threads_for, work_zones};
 use bh_model::{Law, Pull};
 use build_gate::Gate;
 use mass_moments::Moments;
@@ -48,7 +48,9 @@ pub fn pulls<R: Threads + Sync, G: Gate>(
     ensures small { IfOk result (λ list. All (IsPullAmong (length bodies.now)) list.items) }
 {
     let count = bodies.len();
-    let table = flat_table(alloc, tree, moments, bodies, &least_distances(law))?;
+    let least = least_distances(law);
+    let threads = threads_for(zones);
+    let table = flat_table(rt, alloc, tree, moments, bodies, &least, threads)?;
     let lists = work_zones(rt, alloc, &table, law, bodies, zones, gate)?;
     let all = place_all(alloc, zones, lists.as_slice(), count)?;
     Ok(all)

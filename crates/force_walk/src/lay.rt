@@ -3,6 +3,7 @@
 ghost use Rattle.std.specs.Prelude.{◌≡◌, ◌<◌, ◌≤◌, ◌-◌, ◌^◌, ◌∷◌, [], All, IfOk, OnOk, length, slice_index_or, slice_set};
 ghost use Rattle.octant_code.specs.declared.limits.TheConstants.{LEVELS};
 ghost use Rattle.force_walk.specs.Cubes.{IsTreeOfCube};
+ghost use Rattle.force_walk.specs.Parts.{IsPart};
 ghost use Rattle.force_walk.specs.Flat.{AreAdded, AreFound, body_node, flat, kept_node, no_node, owners};
 ghost use Rattle.mass_moments.specs.Kept.{HaveMatter, matter_of, moment_at};
 ghost use Rattle.octree.specs.Stored.{IsOctreeOf, tree_of};
@@ -12,11 +13,13 @@ ghost use Rattle.scene_file.specs.Bodies.{sites_of};
 
 use crate::least::SIDES;
 use crate::node::{FlatTable, Laid, WalkNode};
+use crate::parts::{Part, lay_parts, next_part, parts_of};
 use mass_moments::Moments;
 use octant_code::{LEVELS, OutOfMemory};
 use octree::{CellAt, CellNo, Octree, Subtree, Top};
 use scene_file::Bodies;
 use std::alloc::Global;
+use std::thread::Threads;
 
 /// Appends a node, and whose it is.
 #[inline]
@@ -66,20 +69,39 @@ fn close(nodes: &mut Vec<WalkNode>, at: usize)
     nodes[at].skip = skip;
 }
 
-/// Appends the nodes of a cell, whose cube has side `2^down`, and of what is below it.
-fn lay_cell(
-    cell: CellAt,
+/// Appends what is laid elsewhere.
+fn append(laid: &mut Laid, more: &Laid) -> Result<(), OutOfMemory>
+    ensures { OnOk result (AreAdded more.now.nodes.items more.now.owners.items laid.old laid.new) }
+{
+    laid.nodes.extend_from_slice(more.nodes.as_slice())?;
+    laid.owners.extend_from_slice(more.owners.as_slice())?;
+    Ok(())
+}
+
+/// Appends the nodes of a cell, whose cube has side `2^down`, and of what is below it. Of the cells that are
+/// parts, which come in tree order from the next on, it takes what workers laid.
+pub fn lay_cell(
+    cell: &CellAt,
     moments: &Moments,
     bodies: &Bodies,
     least: &[u64; SIDES],
     down: u32,
+    parts: &[Part],
+    next: &mut usize,
     laid: &mut Laid,
 ) -> Result<(), OutOfMemory>
-    requires cell { IsCellAt cell cell }
-    requires cube { IsTreeOfCube (matter_of bodies.now) (length bodies.now) down (tree_under cell) }
-    requires moments { HaveMatter cell.octree (matter_of bodies.now) moments.now }
-    ensures { OnOk result (AreAdded (flat (matter_of bodies.now) least.now down (tree_under cell.entry)) (owners (tree_under cell.entry)) laid.old laid.new) }
+    requires cell { IsCellAt cell.now cell.now }
+    requires cube { IsTreeOfCube (matter_of bodies.now) (length bodies.now) down (tree_under cell.now) }
+    requires moments { HaveMatter cell.now.octree (matter_of bodies.now) moments.now }
+    requires parts { All (IsPart (matter_of bodies.now) (length bodies.now) least.now cell.now.octree) parts.now }
+    ensures { OnOk result (AreAdded (flat (matter_of bodies.now) least.now down (tree_under cell.now)) (owners (tree_under cell.now)) laid.old laid.new) }
 {
+    if let Some(part) = next_part(parts, next, cell, down) {
+        let Ok(done) = &part.laid else {
+            return Err(OutOfMemory);
+        };
+        return append(laid, done);
+    }
     let own = laid.nodes.len();
     let node = node_of_cell(moments, cell.number(), least[down as usize]);
     push(laid, node, 0)?;
@@ -87,30 +109,44 @@ fn lay_cell(
         match cell.child(k).top() {
             Top::Nothing => {}
             Top::Body(n) => push(laid, node_of_body(bodies, n), n + 1)?,
-            Top::Cell(part) => lay_cell(part, moments, bodies, least, down - 1, laid)?,
+            Top::Cell(inner) => lay_cell(
+                &inner,
+                moments,
+                bodies,
+                least,
+                down - 1,
+                parts,
+                next,
+                laid,
+            )?,
         }
     }
     close(&mut laid.nodes, own);
     Ok(())
 }
 
-/// Appends the nodes of a subtree, whose cube has side `2^down`.
+/// Appends the nodes of a subtree, whose cube has side `2^down`, with what workers laid of its parts.
 fn lay(
     at: &Subtree,
     moments: &Moments,
     bodies: &Bodies,
     least: &[u64; SIDES],
     down: u32,
+    parts: &[Part],
     laid: &mut Laid,
 ) -> Result<(), OutOfMemory>
     requires cube { IsTreeOfCube (matter_of bodies.now) (length bodies.now) down (tree_under at.now) }
     requires moments { HaveMatter at.now.octree (matter_of bodies.now) moments.now }
+    requires parts { All (IsPart (matter_of bodies.now) (length bodies.now) least.now at.now.octree) parts.now }
     ensures { OnOk result (AreAdded (flat (matter_of bodies.now) least.now down (tree_under at.now)) (owners (tree_under at.now)) laid.old laid.new) }
 {
     match at.top() {
         Top::Nothing => Ok(()),
         Top::Body(n) => push(laid, node_of_body(bodies, n), n + 1),
-        Top::Cell(cell) => lay_cell(cell, moments, bodies, least, down, laid),
+        Top::Cell(cell) => {
+            let mut next = 0;
+            lay_cell(&cell, moments, bodies, least, down, parts, &mut next, laid)
+        }
     }
 }
 
@@ -131,26 +167,49 @@ fn places_of(alloc: Global, owners: &[u32], count: u32) -> Result<Vec<u32>, OutO
     Ok(places)
 }
 
-/// The flat table of the canonical octree of all bodies. Room for all nodes is taken at once.
-pub fn flat_table(
+/// The flat table of the canonical octree of all bodies, which is laid in at most so many threads. Room for
+/// all nodes is taken at once.
+pub fn flat_table<R: Threads + Sync>(
+    rt: &R,
     alloc: Global,
     tree: &Octree,
     moments: &Moments,
     bodies: &Bodies,
     least: &[u64; SIDES],
+    threads: usize,
 ) -> Result<FlatTable, OutOfMemory>
+    requires threads { 0 < threads }
     requires octree { IsOctreeOf (sites_of bodies.now) tree.now }
     requires moments { HaveMatter tree.now (matter_of bodies.now) moments.now }
     ensures nodes { IfOk result (λ table. table.nodes.items ≡ flat (matter_of bodies.now) least.now LEVELS (tree_of tree.now)) }
     ensures long { IfOk result (λ table. length table.places.items ≡ length bodies.now) }
     ensures places { IfOk result (λ table. AreFound (owners (tree_of tree.now)) table.places.items) }
 {
+    let mut parts = parts_of(alloc, tree, moments, bodies, least, threads)?;
+    lay_parts(
+        rt,
+        alloc,
+        tree,
+        moments,
+        bodies,
+        least,
+        threads,
+        parts.as_mut_slice(),
+    );
     let most = tree.used() as usize + bodies.len() as usize;
     let mut laid = Laid {
         nodes: Vec::with_capacity(alloc, most)?,
         owners: Vec::with_capacity(alloc, most)?,
     };
-    lay(&tree.whole(), moments, bodies, least, LEVELS, &mut laid)?;
+    lay(
+        &tree.whole(),
+        moments,
+        bodies,
+        least,
+        LEVELS,
+        parts.as_slice(),
+        &mut laid,
+    )?;
     let places = places_of(alloc, laid.owners.as_slice(), bodies.len())?;
     Ok(FlatTable {
         nodes: laid.nodes,

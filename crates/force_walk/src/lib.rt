@@ -6,6 +6,7 @@ mod lay;
 mod least;
 mod node;
 mod one_body;
+mod parts;
 mod short_pull;
 mod term;
 mod view;

@@ -47,9 +47,9 @@ fn room_for(alloc: Global, zones: &[Vec<u32>]) -> Result<Vec<Vec<Pull>>, OutOfMe
     Ok(lists)
 }
 
-/// In how many threads the zones are worked: each in one of its own, or all in the calling one where no
-/// two have bodies.
-fn threads_for(zones: &[Vec<u32>]) -> usize
+/// In how many threads the workers are at work: each in one of its own, or all in the calling one where no
+/// two zones have bodies.
+pub fn threads_for(zones: &[Vec<u32>]) -> usize
     ensures { 0 < result }
 {
     let mut some = false;

@@ -21,10 +21,10 @@ pub work_zones-requires-clause-table : goal.work_zones-requires-clause-table
 work_zones-requires-clause-table g c = λ κs within.
     let cube = scene_cube c.args.bodies.now c.args.tree.now (scene g (goal.at.work_zones-requires-clause-table g c).After-len-count) in
     record {
-      rule = c.least_distances.ensures.rule;
+      rule = c.least_distances-least.ensures.rule;
       laid = subst (λ (l : List WalkNode). All IsLaid l) (sym c.in_ok-table.ensures.nodes)
-          (cube_laid c.args.law.now c.least_distances.result c.least_distances.ensures.least cube);
-      few = omega (arith, cube_few c.least_distances.result cube, ap length c.in_ok-table.ensures.nodes);
+          (cube_laid c.args.law.now c.least_distances-least.result c.least_distances-least.ensures.least cube);
+      few = omega (arith, cube_few c.least_distances-least.result cube, ap length c.in_ok-table.ensures.nodes);
       places = c.in_ok-table.ensures.long;
     }
 
@@ -58,12 +58,12 @@ returns-clause-value g c =
     (c.in_ok-all.ensures.long ∙ c.len-count.ensures.value) (λ n l. c.in_ok-all.ensures.placed walk n told (c.requires.covered n l))
     (λ n l. ap (λ nodes. walked c.args.law.now ((matter_of c.args.bodies.now).site n) (slice_index c.in_ok-table.table.places.items n) 0 nodes 0)
     c.in_ok-table.ensures.nodes
-    ∙ scene_walk c.args.law.now c.args.bodies.now c.args.tree.now c.least_distances.result c.in_ok-table.table.places.items n here
-    c.least_distances.ensures.least c.in_ok-table.ensures.places l)
+    ∙ scene_walk c.args.law.now c.args.bodies.now c.args.tree.now c.least_distances-least.result c.in_ok-table.table.places.items n here
+    c.least_distances-least.ensures.least c.in_ok-table.ensures.places l)
 
 pub returns-clause-small : goal.returns-clause-small
 returns-clause-small g c =
     let here = scene g (goal.at.returns-clause-small g c).After-len-count in
     all_small (IsPullAmong (length c.args.bodies.now)) c.args.law.now (matter_of c.args.bodies.now) (length c.args.bodies.now) (tree_of c.args.tree.now)
     c.in_ok-all.all.items (returns-clause-value g c)
-    (λ n l. scene_small c.args.law.now c.args.bodies.now c.args.tree.now n c.least_distances.ensures.rule here l)
+    (λ n l. scene_small c.args.law.now c.args.bodies.now c.args.tree.now n c.least_distances-least.ensures.rule here l)

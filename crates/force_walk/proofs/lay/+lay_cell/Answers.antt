@@ -1,4 +1,6 @@
-use Rattle.std.proofs.Common.{◌-◌, ap, arith, refl, subst}
+use Rattle.std.proofs.Common.{◌-◌, ◌++◌, ◌∙◌, ap, arith, length, refl, subst}
+use Rattle.bh_model.proofs.Splits.{on_ok_map}
+use Rattle.force_walk.specs.Parts.{IsLaidTree}
 use Rattle.bh_model.specs.Trees.{height}
 use Rattle.mass_moments.specs.Kept.{matter_of}
 use Rattle.octree.proofs.Laws.{child_height, child_octree}
@@ -33,13 +35,13 @@ pub lay_cell-requires : goal.lay_cell-requires
 lay_cell-requires t c =
     let less = child_height _ _ _ _ c.requires.cell c.child.ensures c.loop-k-test.true in
     let same = c.in-Cell.ensures.same in
-    let m = matter_of c.args.bodies.now in (
+    let stored = child_octree _ _ _ _ c.requires.cell c.child.ensures in (
       omega (arith, less, ap (λ (s : Spot). height (tree_under s)) same),
       (
         cell_itself c.in-Cell.ensures,
         (
           rw same (cube_child c.requires.cell c.requires.cube c.child.ensures c.loop-k-test.true),
-          rw (same, child_octree _ _ _ _ c.requires.cell c.child.ensures) c.requires.moments,
+          (rw (same, stored) c.requires.moments, rw (same, stored) c.requires.parts),
         ),
       ),
     )
@@ -78,3 +80,13 @@ returns t c =
     let ok = c.args.laid.now.nodes.ok.0 in
     added_cell (matter_of c.args.bodies.now) c.args.least.now c.args.down c.loop-k.k c.requires.cell c.loop-k.invariant (omega arith) c.len-own.result _
     (omega (arith, c.len-own.ensures)) c.close.ensures refl
+
+pub returns-in-Some : goal.returns-in-Some
+returns-in-Some t c =
+    let laid : IsLaidTree (matter_of c.args.bodies.now) c.args.least.now c.args.down (tree_under c.args.cell.now) c.in-Ok.done =
+    rw c.in-Ok.is at c.in-Some.ensures (matter_of c.args.bodies.now) (length c.args.bodies.now) c.args.least.now c.requires.parts in
+    on_ok_map c.append.result _ _
+    (λ added. record {
+      nodes_are = added.nodes_are ∙ ap (λ l. c.args.laid.now.nodes.items ++ l) laid.nodes_are;
+      owners_are = added.owners_are ∙ ap (λ l. c.args.laid.now.owners.items ++ l) laid.owners_are;
+    }) c.append.ensures

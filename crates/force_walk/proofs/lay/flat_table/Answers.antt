@@ -12,31 +12,31 @@ use Rattle.force_walk.proofs.lay.flat_table.Goals.{After-len-2, After-whole}
 use Rattle.force_walk.proofs.lay.flat_table.Goals as goal
 
 -- the tree is that of the whole cube
-cube : (c : After-whole) → IsTreeOfCube (matter_of c.args.bodies.now) (length c.args.bodies.now) 21 (tree_under c.whole.result)
-cube c =
+cube : (g : _) (c : After-whole g) → IsTreeOfCube (matter_of c.args.bodies.now) (length c.args.bodies.now) 21 (tree_under c.whole.result)
+cube g c =
     subst (λ (t : Tree). IsTreeOfCube (matter_of c.args.bodies.now) (length c.args.bodies.now) 21 t) (sym c.whole.ensures.tree)
     (scene_cube c.args.bodies.now c.args.tree.now (record { rule = c.len.ensures.rule; octree = c.requires.octree }))
 
 pub lay-requires-clause-cube : goal.lay-requires-clause-cube
-lay-requires-clause-cube c = cube (goal.at.lay-requires-clause-cube c).After-whole
+lay-requires-clause-cube g c = cube g (goal.at.lay-requires-clause-cube g c).After-whole
 
 -- the owners are those of the octree
-owned : (c : After-len-2) → c.as_slice.result.now ≡ owners (tree_under c.whole.result)
-owned c =
-    c.as_slice.ensures.value ∙ c.in_ok-lay.ensures.owners_are
+owned : (g : _) (c : After-len-2 g) → c.as_slice-2.result.now ≡ owners (tree_under c.whole.result)
+owned g c =
+    c.as_slice-2.ensures.value ∙ c.in_ok-lay.ensures.owners_are
     ∙ ap (λ l. l ++ owners (tree_under c.whole.result)) c.in_ok-with_capacity-2.ensures.items
 
 pub places_of-requires-clause-few : goal.places_of-requires-clause-few
-places_of-requires-clause-few c =
+places_of-requires-clause-few g c =
     omega (
       arith,
-      ap length (owned c),
+      ap length (owned g c),
       owners_long (matter_of c.args.bodies.now) c.args.least.now 21 (tree_under c.whole.result),
-      cube_few c.args.least.now (cube (goal.at.places_of-requires-clause-few c).After-whole),
+      cube_few c.args.least.now (cube g (goal.at.places_of-requires-clause-few g c).After-whole),
     )
 
 pub places_of-requires-clause-known : goal.places_of-requires-clause-known
-places_of-requires-clause-known c =
-    subst (λ (l : List ℕ). All (λ o. o ≤ c.len-2.result) l) (sym (owned c))
+places_of-requires-clause-known g c =
+    subst (λ (l : List ℕ). All (λ o. o ≤ c.len-2.result) l) (sym (owned g c))
     (subst (λ (n : ℕ). All (λ o. o ≤ n) (owners (tree_under c.whole.result))) (sym c.len-2.ensures.value)
-    (owners_known (length c.args.bodies.now) 21 (tree_under c.whole.result) (cube (goal.at.places_of-requires-clause-known c).After-whole).stands))
+    (owners_known (length c.args.bodies.now) 21 (tree_under c.whole.result) (cube g (goal.at.places_of-requires-clause-known g c).After-whole).stands))
