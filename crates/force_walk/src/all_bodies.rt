@@ -25,7 +25,7 @@ use std::thread::Threads;
 /// the zone's place, and which walks the zone's bodies one after another; all workers are at work at the
 /// same time. Where no two zones have bodies, all is worked by the calling thread. A worker passes the
 /// gate at `Start`, at `AfterFirst` when its first body's pull is known, and at `End`. It takes memory for
-/// the pulls twice, and for a table of the octree's cells and bodies.
+/// the pulls twice, and for a table of the octree's cells and bodies, twice for what several workers lay.
 ///
 /// # Errors
 ///
